@@ -1,0 +1,9 @@
+pub mod Forest
+pub mod Edits
+pub mod Words
+pub mod Standings
+pub mod Facts
+pub mod Directions
+pub mod Trees
+pub mod ForestCode
+pub mod Example

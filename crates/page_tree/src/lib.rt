@@ -1,0 +1,12 @@
+//! The tree of a page, as contracts speak of it. This crate has definitions alone, and the limits of a tree.
+//!
+//! `specs/Forest.antt` has the nodes and how they are found, `Edits.antt` how a tree changes, `Standings.antt` what
+//! stands around an element, `Directions.antt` the ways from one element to others, `Facts.antt` what a page says of an
+//! element, and `Trees.antt` what every tree keeps. `Example.antt` computes each of them on small pages.
+#![tactic(auto)]
+
+/// How many nodes a tree has at most, the document aside.
+pub const NODE_LIMIT: u32 = 1_000_000;
+
+/// How deep a node stands at most; the document has depth 0.
+pub const DEPTH_LIMIT: u32 = 512;
