@@ -1,0 +1,5 @@
+pub mod Laws
+pub mod Selects
+pub mod Rows
+pub mod Induction
+mod Example

@@ -1,0 +1,4 @@
+pub mod Spelled
+pub mod Joined
+pub mod TextLaws
+mod Example
