@@ -1,0 +1,208 @@
+-- New children of a node, in the forest and in the slots.
+use Rattle.std.proofs.Common.{◌≡◌, ℕ, zero, suc, ◌+◌, ◌<◌, ◌≤◌, List, [], ◌∷◌, ◌++◌, length, set, refl, sym, ◌∙◌, ap, subst, inl, inr, arith}
+use Rattle.std.proofs.lemmas.Bool.{cases_eq, cases_lt}
+use Rattle.std.proofs.lemmas.List.{get_or-set_same, get_or-set_other, get_or_append_left, get_or_past, get_or_push, length_push}
+use Rattle.page_tree.specs.Forest.{Content, document, element, text, comment, Forest, empty, node, rooted, count, size, head, tops, find, or_else, children}
+use Rattle.page_tree.specs.Edits.{joined, insert_at, with_children}
+use Rattle.page_tree.specs.Trees.{MayHave, IsGrown}
+use Rattle.dom_arena.specs.declared.table.Slot.{Slot}
+use Rattle.dom_arena.specs.Contents.{payload_of}
+use Rattle.dom_arena.specs.Slots.{free, cell, slot_at, last_behind, last}
+use Rattle.dom_arena.specs.Linked.{Linked, from_place, before_place}
+use Rattle.dom_arena.proofs.Links.{same_cases, find-none, IsCell, IsCell-find}
+use Rattle.dom_arena.proofs.Siblings.{same-same, same-eq}
+
+pub head-with_children : (p : ℕ) (g f : Forest) → head (with_children p g f) ≡ head f
+head-with_children p g empty = refl
+head-with_children p g (node n c kids later) = refl
+
+last_behind-with_children : (p b : ℕ) (g f : Forest) → last_behind b (with_children p g f) ≡ last_behind b f
+last_behind-with_children p b g empty = refl
+last_behind-with_children p b g (node n c kids later) = last_behind-with_children p n g later
+
+-- new children further below change no slot of a node
+cell-with_children : (p : ℕ) (g : Forest) (parent : ℕ) (kids : Forest) (next previous : ℕ) (c : Content) → cell parent (with_children p g kids) next previous c ≡ cell parent kids next previous c
+cell-with_children p g parent kids next previous c = rw (head-with_children p g kids, last_behind-with_children p 0 g kids) refl
+
+pub with_children-none : (p : ℕ) (g f : Forest) → count p f ≡ 0 → with_children p g f ≡ f
+with_children-none p g empty h = refl
+with_children-none p g (node n c kids later) h =
+    elim (same_cases p n) [
+      | inl q ↦ absurd (omega arith)
+      | inr q ↦ rw (q.2, with_children-none p g kids (omega arith), with_children-none p g later (omega arith)) refl
+    ]
+
+pub find-some : (s : ℕ → Slot) (k : ℕ) (f g : Forest) → IsCell s k f → or_else f g ≡ f
+find-some s k empty g h = absurd h
+find-some s k (node n c kids later) g h = refl
+
+-- what is counted below and beside a new list of children
+pub count-with_children : (s : ℕ → Slot) (k p : ℕ) (g f : Forest) (parent previous : ℕ) → Linked s parent previous f → count p f ≡ 1
+    → count k (with_children p g f) + count k (children (find p f)) ≡ count k f + count k g
+count-with_children s k p g empty parent previous l h = absurd (omega arith)
+count-with_children s k p g (node n c kids later) parent previous l h =
+    elim (same_cases p n) [
+      | inl q ↦ rw (q.2, with_children-none p g later (omega arith)) (omega arith)
+      | inr q ↦ elim (cases_eq (count p kids) 0) [
+        | inl z ↦ rw (q.2, find-none p kids z, with_children-none p g kids z) (omega (arith, count-with_children s k p g later parent n l.2 (omega arith)))
+        | inr z ↦
+            rw (q.2, find-some s p (find p kids) (find p later) (IsCell-find s p kids n 0 l.1 (omega arith)), with_children-none p g later (omega arith))
+            (omega (arith, count-with_children s k p g kids n 0 l.1 (omega arith)))
+      ]
+    ]
+
+pub count-joined : (k : ℕ) (f g : Forest) → count k (joined f g) ≡ count k f + count k g
+count-joined k empty g = omega arith
+count-joined k (node n c kids later) g = omega (arith, count-joined k later g)
+
+pub count-insert : (k i : ℕ) (new f : Forest) → count k (insert_at i new f) ≡ count k new + count k f
+count-insert k i new empty = omega arith
+count-insert k zero new (node n c kids later) = count-joined k new (node n c kids later)
+count-insert k (suc i) new (node n c kids later) = omega (arith, count-insert k i new later)
+
+pub size-joined : (f g : Forest) → size (joined f g) ≡ size f + size g
+size-joined empty g = omega arith
+size-joined (node n c kids later) g = omega (arith, size-joined later g)
+
+pub size-insert : (i : ℕ) (new f : Forest) → size (insert_at i new f) ≡ size new + size f
+size-insert i new empty = omega arith
+size-insert zero new (node n c kids later) = size-joined new (node n c kids later)
+size-insert (suc i) new (node n c kids later) = omega (arith, size-insert i new later)
+
+pub size-with_children : (s : ℕ → Slot) (p : ℕ) (g f : Forest) (parent previous : ℕ) → Linked s parent previous f → count p f ≡ 1
+    → size (with_children p g f) + size (children (find p f)) ≡ size f + size g
+size-with_children s p g empty parent previous l h = absurd (omega arith)
+size-with_children s p g (node n c kids later) parent previous l h =
+    elim (same_cases p n) [
+      | inl q ↦ rw (q.2, with_children-none p g later (omega arith)) (omega arith)
+      | inr q ↦ elim (cases_eq (count p kids) 0) [
+        | inl z ↦ rw (q.2, find-none p kids z, with_children-none p g kids z) (omega (arith, size-with_children s p g later parent n l.2 (omega arith)))
+        | inr z ↦
+            rw (q.2, find-some s p (find p kids) (find p later) (IsCell-find s p kids n 0 l.1 (omega arith)), with_children-none p g later (omega arith))
+            (omega (arith, size-with_children s p g kids n 0 l.1 (omega arith)))
+      ]
+    ]
+
+IsGrown-joined : (f g : Forest) → IsGrown f → IsGrown g → IsGrown (joined f g)
+IsGrown-joined empty g a b = b
+IsGrown-joined (node n c kids later) g a b = (a.0, a.1, IsGrown-joined later g a.2 b)
+
+pub IsGrown-insert : (i : ℕ) (new f : Forest) → IsGrown new → IsGrown f → IsGrown (insert_at i new f)
+IsGrown-insert i new empty a b = a
+IsGrown-insert zero new (node n c kids later) a b = IsGrown-joined new (node n c kids later) a b
+IsGrown-insert (suc i) new (node n c kids later) a b = (b.0, b.1, IsGrown-insert i new later a b.2)
+
+MayHave-with_children : (c : Content) (p : ℕ) (g kids : Forest) → MayHave c kids → MayHave c (with_children p g kids)
+MayHave-with_children document p g kids h = tt
+MayHave-with_children (element name attrs) p g kids h = tt
+MayHave-with_children (text bytes) p g kids h = rw h refl
+MayHave-with_children (comment bytes) p g kids h = rw h refl
+
+pub IsGrown-with_children : (s : ℕ → Slot) (p : ℕ) (g f : Forest) (parent previous : ℕ) → Linked s parent previous f
+    → ((c : Content) → payload_of c ≡ (s p).payload → MayHave c g) → IsGrown g → IsGrown f → IsGrown (with_children p g f)
+IsGrown-with_children s p g empty parent previous l may a b = tt
+IsGrown-with_children s p g (node n c kids later) parent previous l may a b =
+    elim (same_cases p n) [
+      | inl q ↦
+          let e : payload_of c ≡ (s p).payload = rw q.0 (ap (λ (x : Slot). x.payload) (sym l.0)) in
+          rw q.2 (may c e, a, IsGrown-with_children s p g later parent n l.2 may a b.2)
+      | inr q ↦ rw q.2 (
+        MayHave-with_children c p g kids b.0,
+        IsGrown-with_children s p g kids n 0 l.1 may a b.1,
+        IsGrown-with_children s p g later parent n l.2 may a b.2,
+      )
+    ]
+
+-- slots that differ in a node's first child, and hold its new children
+pub Linked-with_children : (s s' : ℕ → Slot) (p : ℕ) (g f : Forest) (parent previous : ℕ) → Linked s parent previous f → (parent ≡ p → ⊥)
+    → s' p ≡ record (s p) { first_child = head g; last_child = last g } → Linked s' p 0 g
+    → ((k : ℕ) → 0 < count k f → (k ≡ p → ⊥) → ((s k).parent ≡ p → ⊥) → s' k ≡ s k)
+    → Linked s' parent previous (with_children p g f)
+Linked-with_children s s' p g empty parent previous l ne at below keep = tt
+Linked-with_children s s' p g (node n c kids later) parent previous l ne at below keep =
+    elim (same_cases p n) [
+      | inl q ↦
+          let e : s' n ≡ cell parent g (head (with_children p g later)) previous c =
+          ap s' (sym q.0) ∙ at ∙ ap (λ (x : Slot). record x { first_child = head g; last_child = last g }) (ap s q.0 ∙ l.0) ∙ ap (λ h. cell parent g h previous c) (sym (head-with_children p g later)) in
+          rw q.2 (e, subst (λ (m : ℕ). Linked s' m 0 g) q.0 below, Linked-with_children s s' p g later parent n l.2 ne at below (λ k h. keep k (omega arith)))
+      | inr q ↦
+          let other : n ≡ p → ⊥ = λ e. q.0 (sym e) in
+          let e : s' n ≡ cell parent (with_children p g kids) (head (with_children p g later)) previous c =
+          keep n (omega (arith, same-same n)) other (λ e. ne (sym (ap (λ (x : Slot). x.parent) l.0) ∙ e)) ∙ l.0
+          ∙ sym (cell-with_children p g parent kids (head later) previous c)
+          ∙ ap (λ h. cell parent (with_children p g kids) h previous c) (sym (head-with_children p g later)) in
+          rw q.2 (
+            e,
+            Linked-with_children s s' p g kids n 0 l.1 other at below (λ k h. keep k (omega arith)),
+            Linked-with_children s s' p g later parent n l.2 ne at below (λ k h. keep k (omega arith)),
+          )
+    ]
+
+pub Linked-rooted : (s s' : ℕ → Slot) (p : ℕ) (g f : Forest) → Linked s 0 0 (rooted f)
+    → s' p ≡ record (s p) { first_child = head g; last_child = last g } → Linked s' p 0 g
+    → ((k : ℕ) → 0 < count k (rooted f) → (k ≡ p → ⊥) → ((s k).parent ≡ p → ⊥) → s' k ≡ s k)
+    → Linked s' 0 0 (with_children p g (rooted f))
+Linked-rooted s s' p g f l at below keep =
+    elim (same_cases p 0) [
+      | inl q ↦
+          let e : s' 0 ≡ cell 0 g 0 0 document =
+          ap s' (sym q.0) ∙ at ∙ ap (λ (x : Slot). record x { first_child = head g; last_child = last g }) (ap s q.0 ∙ l.0) in
+          rw q.2 (e, subst (λ (m : ℕ). Linked s' m 0 g) q.0 below, tt)
+      | inr q ↦ Linked-with_children s s' p g (rooted f) 0 0 l (λ e. q.0 (sym e)) at below keep
+    ]
+
+-- ---- the places among siblings
+
+pub Linked-from_place : (s : ℕ → Slot) (p i b : ℕ) (f : Forest) → Linked s p b f → Linked s p (before_place b i f) (from_place i f)
+Linked-from_place s p zero b f l = l
+Linked-from_place s p (suc i) b empty l = tt
+Linked-from_place s p (suc i) b (node n c kids later) l = Linked-from_place s p i n later l.2
+
+head-parent : (s : ℕ → Slot) (p b : ℕ) (f : Forest) → Linked s p b f → (head f ≡ 0 → ⊥) → (s (head f)).parent ≡ p
+head-parent s p b empty l h = absurd (h refl)
+head-parent s p b (node n c kids later) l h = ap (λ (x : Slot). x.parent) l.0
+
+pub after-parent : (s : ℕ → Slot) (p i b : ℕ) (f : Forest) → Linked s p b f → (head (from_place i f) ≡ 0 → ⊥) → (s (head (from_place i f))).parent ≡ p
+after-parent s p i b f l h = head-parent s p (before_place b i f) (from_place i f) (Linked-from_place s p i b f l) h
+
+pub before-parent : (s : ℕ → Slot) (p i b : ℕ) (f : Forest) → Linked s p b f → (before_place b i f ≡ b → ⊥) → (s (before_place b i f)).parent ≡ p
+before-parent s p zero b f l h = absurd (h refl)
+before-parent s p (suc i) b empty l h = absurd (h refl)
+before-parent s p (suc i) b (node n c kids later) l h =
+    elim (cases_eq (before_place n i later) n) [
+      | inl e ↦ ap (λ (k : ℕ). (s k).parent) e ∙ ap (λ (x : Slot). x.parent) l.0
+      | inr ne ↦ before-parent s p i n later l.2 ne
+    ]
+
+-- one step along the siblings
+pub place_step : (s : ℕ → Slot) (p i b : ℕ) (f : Forest) → Linked s p b f → (head (from_place i f) ≡ 0 → ⊥)
+    → (i < length (tops f)) × (before_place b (suc i) f ≡ head (from_place i f)) × (head (from_place (suc i) f) ≡ (s (head (from_place i f))).next)
+place_step s p zero b empty l h = absurd (h refl)
+place_step s p zero b (node n c kids later) l h = (omega arith, refl, ap (λ (x : Slot). x.next) (sym l.0))
+place_step s p (suc i) b empty l h = absurd (h refl)
+place_step s p (suc i) b (node n c kids later) l h =
+    let r = place_step s p i n later l.2 h in
+    (omega arith, r.1, r.2)
+
+pub place_end : (i : ℕ) (f : Forest) → count 0 f ≡ 0 → head (from_place i f) ≡ 0 → length (tops f) ≤ i
+place_end i empty z h = omega arith
+place_end zero (node n c kids later) z h = absurd (omega (arith, same-eq 0 n (sym h)))
+place_end (suc i) (node n c kids later) z h = omega (arith, place_end i later (omega arith) h)
+
+-- ---- slots after a write
+
+pub slot_at-set_same : (l : List Slot) (i : ℕ) (v : Slot) → i < length l → slot_at (set l i v) i ≡ v
+slot_at-set_same l i v h = get_or-set_same l i v free h
+
+pub slot_at-set_other : (l : List Slot) (i k : ℕ) (v : Slot) → (k ≡ i → ⊥) → slot_at (set l i v) k ≡ slot_at l k
+slot_at-set_other l i k v h = get_or-set_other l i k v free h
+
+pub slot_at-push : (l : List Slot) (v : Slot) (k : ℕ) → (k ≡ length l → ⊥) → slot_at (l ++ v ∷ []) k ≡ slot_at l k
+slot_at-push l v k h =
+    elim (cases_lt k (length l)) [
+      | inl lt ↦ get_or_append_left l (v ∷ []) free k lt
+      | inr le ↦ get_or_past (l ++ v ∷ []) k free (omega (arith, length_push l v)) ∙ sym (get_or_past l k free le)
+    ]
+
+pub slot_at-pushed : (l : List Slot) (v : Slot) → slot_at (l ++ v ∷ []) (length l) ≡ v
+slot_at-pushed l v = get_or_push l v free (length l) refl

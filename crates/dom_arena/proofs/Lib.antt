@@ -1,0 +1,11 @@
+pub mod Links
+pub mod Siblings
+pub mod Grafts
+pub mod Family
+pub mod Refused
+pub mod Heights
+pub mod Depths
+pub mod Ordinary
+pub mod Writes
+pub mod Added
+pub mod Order

@@ -1,0 +1,73 @@
+-- The slots and the refusals, computed on a small page.
+use Rattle.std.specs.Prelude.{◌≡◌, List, [], ◌∷◌, codes, Some, None, refl}
+use Rattle.page_tree.specs.Forest.{document, element, text, comment, Forest, empty, node, Tree}
+use Rattle.dom_arena.specs.declared.refusals.DomError.TheVariants.{NoSuchNode, NotElement, BadPlace, TooDeep, TooManyNodes}
+use Rattle.dom_arena.specs.declared.table.Slot.{Slot}
+use Rattle.dom_arena.specs.Slots.{free, cell, with_link, with_back_link}
+use Rattle.dom_arena.specs.Linked.{tree_of}
+use Rattle.dom_arena.specs.Refusals.{place_refused, limits_refused, add_refused, append_refused}
+
+-- <p>ab</p><!--c-->, where number 3 is given and gone
+abbrev ab : Forest
+ab = node 2 (text (codes "ab")) empty empty
+
+abbrev page : Forest
+page = node 1 (element (codes "p") []) ab (node 4 (comment (codes "c")) empty empty)
+
+abbrev tree : Tree
+tree = record { nodes = page; next = 5 }
+
+abbrev slots : List Slot
+slots =
+    cell 0 page 0 0 document ∷ cell 0 ab 4 0 (element (codes "p") []) ∷ cell 1 empty 0 0 (text (codes "ab")) ∷ free
+    ∷ cell 0 empty 0 1 (comment (codes "c")) ∷ []
+
+slots_are_the_page : tree_of slots ≡ tree
+slots_are_the_page = refl
+
+-- a node 4 behind the text, as the last child of p
+linked_in : with_back_link 4 1 0 (with_link 4 1 2 slots) ≡
+    cell 0 page 0 0 document ∷ record (cell 0 ab 4 0 (element (codes "p") [])) { last_child = 4 } ∷ cell 1 empty 4 0 (text (codes "ab")) ∷ free
+    ∷ cell 0 empty 0 1 (comment (codes "c")) ∷ []
+linked_in = refl
+
+-- the refusals, each before the next
+
+no_node : place_refused 3 9 tree ≡ Some (NoSuchNode 3)
+no_node = refl
+
+no_children_of_texts : place_refused 2 9 tree ≡ Some (NotElement 2)
+no_children_of_texts = refl
+
+no_children_of_comments : place_refused 4 0 tree ≡ Some (NotElement 4)
+no_children_of_comments = refl
+
+past_the_children : place_refused 1 2 tree ≡ Some (BadPlace 2)
+past_the_children = refl
+
+behind_the_children : place_refused 1 1 tree ≡ None
+behind_the_children = refl
+
+document_has_children : place_refused 0 2 tree ≡ None
+document_has_children = refl
+
+place_is_first : add_refused 0 3 tree ≡ Some (BadPlace 3)
+place_is_first = refl
+
+deepest : limits_refused (Some 511) 999999 ≡ None
+deepest = refl
+
+depth_is_before_number : limits_refused (Some 512) 1000000 ≡ Some TooDeep
+depth_is_before_number = refl
+
+one_too_many : limits_refused (Some 511) 1000000 ≡ Some TooManyNodes
+one_too_many = refl
+
+added_node : add_refused 1 0 tree ≡ None
+added_node = refl
+
+appended_node : append_refused 1 tree ≡ None
+appended_node = refl
+
+not_appended : append_refused 4 tree ≡ Some (NotElement 4)
+not_appended = refl

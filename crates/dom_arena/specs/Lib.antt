@@ -1,0 +1,5 @@
+pub mod Contents
+pub mod Slots
+pub mod Linked
+pub mod Refusals
+pub mod Example

@@ -1,0 +1,56 @@
+-- The slots of the arena.
+use Rattle.std.specs.Prelude.{◌≡◌, ℕ, ◌==◌, cond, List, Option, Some, None, slice_index_or, slice_set}
+use Rattle.page_tree.specs.Forest.{Content, Forest, empty, node, head}
+use Rattle.dom_arena.specs.Contents.{payload_of}
+use Rattle.dom_arena.specs.declared.kinds.Payload.TheVariants.{Free}
+use Rattle.dom_arena.specs.declared.table.Slot.{Slot}
+
+-- a slot of no node
+abbrev pub free : Slot
+free = record { parent = 0; first_child = 0; last_child = 0; next = 0; previous = 0; payload = Free }
+
+-- the slot of a number, free past the last one
+abbrev pub slot_at : List Slot → ℕ → Slot
+slot_at slots k = slice_index_or slots k free
+
+-- a node has this number
+abbrev pub IsUsed : List Slot → ℕ → Type 0
+IsUsed slots k = (slot_at slots k).payload ≡ Free → ⊥
+
+-- a link, 0 standing for none
+abbrev pub number_of : ℕ → Option ℕ
+number_of k = cond (k == 0) None (Some k)
+
+-- the last number among siblings that stand behind another, which is the last where there are none
+abbrev pub last_behind : ℕ → Forest → ℕ
+last_behind before empty = before
+last_behind before (node n c kids later) = last_behind n later
+
+-- the last number among siblings, or 0 where there is none
+abbrev pub last : Forest → ℕ
+last f = last_behind 0 f
+
+-- the slot of a node: its parent, its children, its next and its previous sibling, and what it is
+abbrev pub cell : ℕ → Forest → ℕ → ℕ → Content → Slot
+cell parent kids next previous c = record {
+  parent = parent;
+  first_child = head kids;
+  last_child = last kids;
+  next = next;
+  previous = previous;
+  payload = payload_of c;
+}
+
+-- the slots with a link to a node n from the sibling before it, or from its parent where it is the first child
+abbrev pub with_link : ℕ → ℕ → ℕ → List Slot → List Slot
+with_link n parent before slots =
+    cond (before == 0)
+    (slice_set slots parent (record (slot_at slots parent) { first_child = n }))
+    (slice_set slots before (record (slot_at slots before) { next = n }))
+
+-- the slots with a link to a node n from the sibling behind it, or from its parent where it is the last child
+abbrev pub with_back_link : ℕ → ℕ → ℕ → List Slot → List Slot
+with_back_link n parent after slots =
+    cond (after == 0)
+    (slice_set slots parent (record (slot_at slots parent) { last_child = n }))
+    (slice_set slots after (record (slot_at slots after) { previous = n }))
