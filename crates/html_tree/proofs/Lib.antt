@@ -1,0 +1,15 @@
+pub mod Runs
+pub mod Tags
+pub mod Spine
+pub mod States
+pub mod Law
+pub mod Rests
+pub mod Limits
+pub mod Readers
+pub mod Halves
+pub mod Spelt
+pub mod Tidies
+pub mod Written
+pub mod Fronts
+pub mod Hung
+pub mod Reading

@@ -1,0 +1,7 @@
+pub mod Bytes
+pub mod Pieces
+pub mod Page
+pub mod Views
+pub mod Chain
+pub mod Spelling
+pub mod Example
