@@ -1,0 +1,82 @@
+#!/usr/bin/env python3
+"""Times the built program, and prints the time and the peak memory of each run as a table.
+
+  bench/bench.py [--program PATH]
+
+It makes its own input in a temporary folder. The pages are tidy: a flat one, whose elements are all siblings, and a
+nested one. The time should grow as the page does, and the peak memory should stay below forty bytes for each byte
+of the page."""
+
+import argparse
+import os
+import subprocess
+import sys
+import tempfile
+import time
+from pathlib import Path
+
+TOP = Path(__file__).resolve().parent.parent
+
+
+def flat_page(nodes):
+    """Rows of an element with a text, all children of the document."""
+    rows = (f'<div class="row c{i % 97}" id="r{i}">text {i} of the page</div>' for i in range(nodes // 2))
+    return "".join(rows)
+
+
+def nested_page(nodes):
+    """Blocks of five nodes, a hundred of them in each section."""
+    parts = []
+    for i in range(nodes // 5):
+        if i % 100 == 0:
+            parts.append(("</div>" if i else "") + f'<div class="section" id="s{i}">')
+        parts.append(
+            f'<div class="row c{i % 97}"><a class="link" id="a{i}">text {i}</a><span>more text {i} here</span></div>'
+        )
+    return "".join(parts) + "</div>"
+
+
+def filters(count):
+    """Half classes and half ids; some of them select something."""
+    lines = [f"##.c{i}" for i in range(count // 2)] + [f"###r{i * 1000}" for i in range(count - count // 2)]
+    return "\n".join(lines) + "\n"
+
+
+def run(program, folder, words):
+    """Seconds, peak memory in bytes, status and length of the output of one run."""
+    output = Path(folder, "output")
+    with open(output, "wb") as target:
+        began = time.perf_counter()
+        process = subprocess.Popen([program, *words], cwd=folder, stdout=target, stdin=subprocess.DEVNULL)
+        _, status, usage = os.wait4(process.pid, 0)
+        seconds = time.perf_counter() - began
+    process.returncode = os.waitstatus_to_exitcode(status)
+    return seconds, usage.ru_maxrss * 1024, process.returncode, output.stat().st_size
+
+
+def main():
+    parser = argparse.ArgumentParser(description=__doc__, formatter_class=argparse.RawDescriptionHelpFormatter)
+    parser.add_argument("--program", default=str(TOP / "crates/cosmetic_top/out/cosmetic_top"))
+    program = str(Path(parser.parse_args().program).resolve())
+    print(f"{'input':<34}{'page bytes':>12}{'seconds':>9}{'peak MB':>9}{'per byte':>10}{'output':>12}")
+    failed = False
+    with tempfile.TemporaryDirectory() as folder:
+        Path(folder, "list").write_text(filters(50))
+        for name, make in (("flat", flat_page), ("nested", nested_page)):
+            times = []
+            for nodes in (200_000, 500_000):
+                page = Path(folder, "page")
+                page.write_text(make(nodes))
+                size = page.stat().st_size
+                seconds, peak, status, output = run(program, folder, ["apply", "list", "page"])
+                times.append(seconds)
+                failed |= status != 0
+                print(
+                    f"{f'{name}, {nodes:,} nodes, 50 filters':<34}{size:>12,}{seconds:>9.2f}{peak / 1e6:>9.0f}"
+                    f"{peak / size:>10.1f}{output:>12,}" + ("" if status == 0 else f"  status {status}")
+                )
+            print(f"{f'{name}, 500,000 for 200,000 nodes':<34}{times[1] / times[0]:>33.2f} times as long")
+    return 1 if failed else 0
+
+
+sys.exit(main())

@@ -1,0 +1,6 @@
+mod Names
+mod WordLaws
+mod Walk
+mod Chosen
+mod Few
+mod Reports

@@ -1,0 +1,56 @@
+-- How an answer is tied to the one that is due, and the status of a report that wasn't written whole.
+use Rattle.std.specs.Prelude.{ℕ, ◌≡◌, Bool, true, false, Result, Ok, Err}
+use Rattle.cosmetic_top.specs.declared.status.Status.{Status}
+use Rattle.cosmetic_top.specs.declared.status.Status.TheVariants.{Done, Usage, ReadFault, WriteFault, Refused, NoMemory}
+use Rattle.cosmetic_top.specs.declared.writing.ReportError.{ReportError}
+use Rattle.cosmetic_top.specs.declared.writing.ReportError.TheVariants.{WriteFault as OutputFault, NoMemory as OutputMemory}
+
+-- an answer that isn't tied to the words and the files: it comes from a fault or from want of memory
+abbrev pub is_failure : Status → Bool
+is_failure ReadFault = true
+is_failure WriteFault = true
+is_failure NoMemory = true
+is_failure _ = false
+
+-- an answer that says that nothing was written
+abbrev pub is_refusal : Status → Bool
+is_refusal Usage = true
+is_refusal ReadFault = true
+is_refusal (Refused refusal) = true
+is_refusal _ = false
+
+-- the answer is the one that is due, unless it is a failure
+abbrev pub IsDue : {T : Type 0} → Result T Status → Result T Status → Type 0
+IsDue (Ok x) due = due ≡ Ok x
+IsDue (Err status) due = is_failure status ≡ false → due ≡ Err status
+
+-- an error that reading input may give
+abbrev pub IsInputError : Status → Type 0
+IsInputError Done = ⊥
+IsInputError Usage = ⊥
+IsInputError ReadFault = Unit {0}
+IsInputError WriteFault = ⊥
+IsInputError (Refused refusal) = Unit {0}
+IsInputError NoMemory = Unit {0}
+
+-- an error that a run may end with
+abbrev pub IsRunError : Status → Type 0
+IsRunError Done = ⊥
+IsRunError Usage = ⊥
+IsRunError ReadFault = Unit {0}
+IsRunError WriteFault = Unit {0}
+IsRunError (Refused refusal) = Unit {0}
+IsRunError NoMemory = Unit {0}
+
+abbrev pub status_of : ReportError → Status
+status_of OutputFault = WriteFault
+status_of OutputMemory = NoMemory
+
+-- the exit status of the program
+abbrev pub exit_status : Status → ℕ
+exit_status Done = 0
+exit_status Usage = 2
+exit_status ReadFault = 3
+exit_status WriteFault = 4
+exit_status (Refused refusal) = 5
+exit_status NoMemory = 6

@@ -1,0 +1,61 @@
+// The words that the program is given, and how it ends.
+ghost use Rattle.std.specs.Prelude.{◌≡◌};
+ghost use Rattle.cosmetic_top.specs.Answers.{exit_status};
+
+use crate::{File, InputRefusal, Status};
+use std::alloc::Global;
+use std::rt::Env;
+use std::{env, io};
+
+/// The words after the program's name. Words that aren't UTF-8 are a faulty command line.
+pub fn words(rt: &(impl Env + AllocGlobal)) -> Result<Vec<String>, Status> {
+    match all_words(rt) {
+        Ok(words) => Ok(words),
+        Err(error) if error.kind() == io::ErrorKind::OutOfMemory => Err(Status::NoMemory),
+        Err(_) => Err(Status::Usage),
+    }
+}
+
+fn all_words(rt: &(impl Env + AllocGlobal)) -> io::Result<Vec<String>> {
+    let mut words = Vec::new(rt.alloc());
+    for word in env::args(rt)?.skip(1) {
+        words.push(word)?;
+    }
+    Ok(words)
+}
+
+/// Says on standard error how a run ended, unless all is well.
+pub fn tell(rt: &impl Eprint, status: Status) {
+    let _ = match status {
+        Status::Done => Ok(()),
+        Status::Usage => rt.eprintln("cosmetic: usage: cosmetic apply|lists|drill .."),
+        Status::ReadFault => rt.eprintln("cosmetic: a file could not be read"),
+        Status::WriteFault => rt.eprintln("cosmetic: the output could not be written"),
+        Status::NoMemory => rt.eprintln("cosmetic: out of memory"),
+        Status::Refused(refusal) => tell_refusal(rt, refusal),
+    };
+}
+
+fn tell_refusal(rt: &impl Eprint, refusal: InputRefusal) -> io::Result<()> {
+    match refusal {
+        InputRefusal::TooLong(File::List(number)) => {
+            eprintln!(rt; "cosmetic: refused: list {number} too long")
+        }
+        InputRefusal::TooLong(File::Page) => rt.eprintln("cosmetic: refused: page too long"),
+        InputRefusal::PageNotYet => rt.eprintln("cosmetic: refused: page not yet read"),
+    }
+}
+
+/// The exit status of the program.
+pub fn code_of(status: Status) -> u8
+    ensures { result ≡ exit_status status }
+{
+    match status {
+        Status::Done => 0,
+        Status::Usage => 2,
+        Status::ReadFault => 3,
+        Status::WriteFault => 4,
+        Status::Refused(_) => 5,
+        Status::NoMemory => 6,
+    }
+}

@@ -1,0 +1,50 @@
+ghost use Rattle.std.specs.Prelude.{◌≡◌};
+
+use crate::writing::ReportError;
+
+/// A file that the words name.
+#[derive(Clone, Copy, Debug, PartialEq, Eq)]
+pub enum File {
+    /// A list, by its number from 1.
+    List(u32),
+    Page,
+}
+
+/// Why the input of a command is refused.
+#[derive(Clone, Copy, Debug, PartialEq, Eq)]
+pub enum InputRefusal {
+    /// The file has more than `FILE_LIMIT` bytes.
+    TooLong(File),
+    /// The page isn't of the form that is read yet.
+    PageNotYet,
+}
+
+/// How a run ends.
+#[derive(Clone, Copy, Debug, PartialEq, Eq)]
+pub enum Status {
+    /// The whole output was written.
+    Done,
+    /// The words are no command.
+    Usage,
+    /// A file could not be read.
+    ReadFault,
+    /// The output could not be written.
+    WriteFault,
+    /// The input is refused, and nothing was written.
+    Refused(InputRefusal),
+    /// Memory ran out.
+    NoMemory,
+}
+
+impl From<ReportError> for Status {
+    ghost use Rattle.cosmetic_top.specs.Answers.{status_of};
+
+    ghost from_gives = { λ error status. status ≡ status_of error };
+
+    fn from(error: ReportError) -> Self {
+        match error {
+            ReportError::WriteFault => Status::WriteFault,
+            ReportError::NoMemory => Status::NoMemory,
+        }
+    }
+}

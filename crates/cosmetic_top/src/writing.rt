@@ -1,0 +1,194 @@
+// How a report is written. Each part makes its whole text first, and then writes it in one piece.
+ghost use Rattle.std.specs.Prelude.{◌≡◌, ◌<◌, ◌≤◌, ◌^◌, ◌++◌, length, string_bytes, IsTrue, IfOk, OnOk, IsErrOf};
+ghost use Rattle.cos_outside.specs.Causes.{Rose};
+ghost use Rattle.cos_outside.specs.Runs.{AppendsPrefix};
+ghost use Rattle.cosmetic_top.specs.Report.{notices_text, head_text, step_text, end_text, steps_text, page_text, report_of};
+
+use crate::hiding::hidden_rows;
+use crate::inputs::Inputs;
+use crate::{ListFilter, read_list, texts};
+use cos_outside::{Failed, Sink, write_whole};
+use dom_arena::Dom;
+use std::alloc::{AllocError, Global};
+
+/// Why a report wasn't written whole.
+#[derive(Clone, Copy, Debug, PartialEq, Eq)]
+pub enum ReportError {
+    WriteFault,
+    NoMemory,
+}
+
+impl From<Failed> for ReportError {
+    ghost use Rattle.cosmetic_top.specs.declared.writing.ReportError.TheVariants.{WriteFault};
+
+    ghost from_gives = { λ _ error. error ≡ WriteFault };
+
+    fn from(_: Failed) -> Self {
+        ReportError::WriteFault
+    }
+}
+
+impl From<AllocError> for ReportError {
+    ghost use Rattle.cosmetic_top.specs.declared.writing.ReportError.TheVariants.{NoMemory};
+
+    ghost from_gives = { λ _ error. error ≡ NoMemory };
+
+    fn from(_: AllocError) -> Self {
+        ReportError::NoMemory
+    }
+}
+
+/// Writes that lines of the list are set aside.
+pub fn write_notices<O: Sink>(alloc: Global, out: &mut O, lines: &[u32]) -> Result<(), ReportError>
+    ensures told { O.tells out.new ≡ O.tells out.old }
+    ensures whole { IsTrue (O.tells out.old) → OnOk result (O.written out.new ≡ O.written out.old ++ notices_text lines.now) }
+    ensures front { IsTrue (O.tells out.old) → AppendsPrefix (O.written out.old) (O.written out.new) (notices_text lines.now) }
+    ensures later { O.faults out.old ≤ O.faults out.new }
+    ensures fault { IsErrOf result ReportError.WriteFault → Rose (O.faults out.old) (O.faults out.new) }
+{
+    let text = texts::notices_text(alloc, lines)?;
+    write_whole(out, text.as_bytes())?;
+    Ok(())
+}
+
+/// Writes the page's address and the active filters.
+pub fn write_head<O: Sink>(
+    alloc: Global,
+    out: &mut O,
+    filters: &[ListFilter],
+) -> Result<(), ReportError>
+    ensures told { O.tells out.new ≡ O.tells out.old }
+    ensures whole { IsTrue (O.tells out.old) → OnOk result (O.written out.new ≡ O.written out.old ++ head_text filters.now) }
+    ensures front { IsTrue (O.tells out.old) → AppendsPrefix (O.written out.old) (O.written out.new) (head_text filters.now) }
+    ensures later { O.faults out.old ≤ O.faults out.new }
+    ensures fault { IsErrOf result ReportError.WriteFault → Rose (O.faults out.old) (O.faults out.new) }
+{
+    let text = texts::head_text(alloc, filters)?;
+    write_whole(out, text.as_bytes())?;
+    Ok(())
+}
+
+/// Writes the end of the report.
+pub fn write_end<O: Sink>(alloc: Global, out: &mut O, lines: u32) -> Result<(), ReportError>
+    ensures told { O.tells out.new ≡ O.tells out.old }
+    ensures whole { IsTrue (O.tells out.old) → OnOk result (O.written out.new ≡ O.written out.old ++ end_text lines) }
+    ensures front { IsTrue (O.tells out.old) → AppendsPrefix (O.written out.old) (O.written out.new) (end_text lines) }
+    ensures later { O.faults out.old ≤ O.faults out.new }
+    ensures fault { IsErrOf result ReportError.WriteFault → Rose (O.faults out.old) (O.faults out.new) }
+{
+    let text = texts::end_text(alloc, lines)?;
+    write_whole(out, text.as_bytes())?;
+    Ok(())
+}
+
+/// Writes a step: its number, its answer, and the hidden elements of the page as it then stands.
+pub fn write_step<O: Sink>(
+    alloc: Global,
+    out: &mut O,
+    number: u32,
+    answer: &str,
+    dom: &Dom,
+    filters: &[ListFilter],
+) -> Result<(), ReportError>
+    requires { length filters.now < 2 ^ 32 }
+    ensures told { O.tells out.new ≡ O.tells out.old }
+    ensures whole { IsTrue (O.tells out.old) → OnOk result (O.written out.new ≡ O.written out.old ++ step_text number answer.now dom.now filters.now) }
+    ensures front { IsTrue (O.tells out.old) → AppendsPrefix (O.written out.old) (O.written out.new) (step_text number answer.now dom.now filters.now) }
+    ensures later { O.faults out.old ≤ O.faults out.new }
+    ensures fault { IsErrOf result ReportError.WriteFault → Rose (O.faults out.old) (O.faults out.new) }
+{
+    let text = step(alloc, number, answer, dom, filters)?;
+    write_whole(out, text.as_bytes())?;
+    Ok(())
+}
+
+fn step(
+    alloc: Global,
+    number: u32,
+    answer: &str,
+    dom: &Dom,
+    filters: &[ListFilter],
+) -> Result<String, AllocError>
+    requires { length filters.now < 2 ^ 32 }
+    ensures { IfOk result (λ text. string_bytes text ≡ step_text number answer.now dom.now filters.now) }
+{
+    let rows = hidden_rows(alloc, dom, filters)?;
+    texts::step_text(alloc, number, answer, dom, filters, rows.as_slice())
+}
+
+/// Writes the whole report of a list and a page.
+pub fn write_report<O: Sink>(alloc: Global, out: &mut O, inputs: &Inputs) -> Result<(), ReportError>
+    requires { length inputs.now.list < 2 ^ 32 }
+    ensures told { O.tells out.new ≡ O.tells out.old }
+    ensures whole { IsTrue (O.tells out.old) → OnOk result (O.written out.new ≡ O.written out.old ++ report_of inputs.now.list inputs.now.tree) }
+    ensures front { IsTrue (O.tells out.old) → AppendsPrefix (O.written out.old) (O.written out.new) (report_of inputs.now.list inputs.now.tree) }
+    ensures later { O.faults out.old ≤ O.faults out.new }
+    ensures fault { IsErrOf result ReportError.WriteFault → Rose (O.faults out.old) (O.faults out.new) }
+{
+    let read = read_list(alloc, inputs.list.as_slice())?;
+    write_read(
+        alloc,
+        out,
+        read.notices.as_slice(),
+        read.filters.as_slice(),
+        &inputs.tree,
+    )
+}
+
+// Writes the report of what a list gives, and of a page.
+fn write_read<O: Sink>(
+    alloc: Global,
+    out: &mut O,
+    notices: &[u32],
+    filters: &[ListFilter],
+    dom: &Dom,
+) -> Result<(), ReportError>
+    requires { length filters.now < 2 ^ 32 }
+    ensures told { O.tells out.new ≡ O.tells out.old }
+    ensures whole { IsTrue (O.tells out.old) → OnOk result (O.written out.new ≡ O.written out.old ++ (notices_text notices.now ++ page_text filters.now dom.now)) }
+    ensures front { IsTrue (O.tells out.old) → AppendsPrefix (O.written out.old) (O.written out.new) (notices_text notices.now ++ page_text filters.now dom.now) }
+    ensures later { O.faults out.old ≤ O.faults out.new }
+    ensures fault { IsErrOf result ReportError.WriteFault → Rose (O.faults out.old) (O.faults out.new) }
+{
+    write_notices(alloc, out, notices)?;
+    write_page(alloc, out, filters, dom)?;
+    Ok(())
+}
+
+// Writes what a report says of a page.
+fn write_page<O: Sink>(
+    alloc: Global,
+    out: &mut O,
+    filters: &[ListFilter],
+    dom: &Dom,
+) -> Result<(), ReportError>
+    requires { length filters.now < 2 ^ 32 }
+    ensures told { O.tells out.new ≡ O.tells out.old }
+    ensures whole { IsTrue (O.tells out.old) → OnOk result (O.written out.new ≡ O.written out.old ++ page_text filters.now dom.now) }
+    ensures front { IsTrue (O.tells out.old) → AppendsPrefix (O.written out.old) (O.written out.new) (page_text filters.now dom.now) }
+    ensures later { O.faults out.old ≤ O.faults out.new }
+    ensures fault { IsErrOf result ReportError.WriteFault → Rose (O.faults out.old) (O.faults out.new) }
+{
+    write_head(alloc, out, filters)?;
+    write_steps(alloc, out, filters, dom)?;
+    Ok(())
+}
+
+// Writes the steps and the end.
+fn write_steps<O: Sink>(
+    alloc: Global,
+    out: &mut O,
+    filters: &[ListFilter],
+    dom: &Dom,
+) -> Result<(), ReportError>
+    requires { length filters.now < 2 ^ 32 }
+    ensures told { O.tells out.new ≡ O.tells out.old }
+    ensures whole { IsTrue (O.tells out.old) → OnOk result (O.written out.new ≡ O.written out.old ++ steps_text filters.now dom.now) }
+    ensures front { IsTrue (O.tells out.old) → AppendsPrefix (O.written out.old) (O.written out.new) (steps_text filters.now dom.now) }
+    ensures later { O.faults out.old ≤ O.faults out.new }
+    ensures fault { IsErrOf result ReportError.WriteFault → Rose (O.faults out.old) (O.faults out.new) }
+{
+    write_step(alloc, out, 0, "opened", dom, filters)?;
+    write_end(alloc, out, 0)?;
+    Ok(())
+}
