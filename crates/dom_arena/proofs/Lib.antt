@@ -9,3 +9,5 @@ pub mod Ordinary
 pub mod Writes
 pub mod Added
 pub mod Order
+pub mod Attributes
+pub mod Rewrites

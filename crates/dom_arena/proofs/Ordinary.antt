@@ -34,7 +34,7 @@ or_ordinary : (f g : Forest) → AreOrdinary f → AreOrdinary g → AreOrdinary
 or_ordinary empty g a b = b
 or_ordinary (node n c kids later) g a b = a
 
-AreOrdinary-find : (k : ℕ) (f : Forest) → AreOrdinary f → AreOrdinary (find k f)
+pub AreOrdinary-find : (k : ℕ) (f : Forest) → AreOrdinary f → AreOrdinary (find k f)
 AreOrdinary-find k empty h = tt
 AreOrdinary-find k (node n c kids later) h =
     elim (same_cases k n) [

@@ -1,16 +1,19 @@
 -- Which refusal a place gives, by the slot of its parent.
-use Rattle.std.proofs.Common.{◌≡◌, ℕ, ◌<◌, ◌≤◌, true, false, List, Some, None, length, refl, sym, ◌∙◌, ap}
-use Rattle.std.proofs.lemmas.Bool.{lt-ltb, le-ltb}
+use Rattle.std.proofs.Common.{◌≡◌, cond, ℕ, ◌<◌, ◌≤◌, true, false, List, Option, Some, None, length, refl, sym, ◌∙◌, ap}
+use Rattle.std.specs.Prelude.{◌==◌}
+use Rattle.std.proofs.lemmas.Bool.{lt-ltb, le-ltb, ne_eqb}
 use Rattle.page_tree.specs.Forest.{Content, document, element, text, comment, Forest, empty, node, rooted, find, children, tops}
 use Rattle.page_tree.specs.Trees.{MayHave}
 use Rattle.dom_arena.specs.declared.kinds.NewNode.{NewNode}
 use Rattle.dom_arena.specs.declared.kinds.NewNode.TheVariants.{Element, Text, Comment}
 use Rattle.dom_arena.specs.declared.kinds.Payload.TheVariants.{Free}
-use Rattle.dom_arena.specs.declared.refusals.DomError.TheVariants.{NoSuchNode, NotElement, BadPlace}
+use Rattle.dom_arena.specs.declared.refusals.DomError.{DomError}
+use Rattle.dom_arena.specs.declared.refusals.DomError.TheVariants.{NoSuchNode, NotElement, BadPlace, IsDocument}
 use Rattle.dom_arena.specs.declared.table.Slot.{Slot}
 use Rattle.dom_arena.specs.Contents.{payload_of, may_hold, new_content}
 use Rattle.dom_arena.specs.Slots.{slot_at, IsUsed}
 use Rattle.dom_arena.specs.Linked.{Stands}
+use Rattle.dom_arena.specs.Attributes.{element_among, is_element}
 use Rattle.dom_arena.specs.Refusals.{place_among}
 use Rattle.dom_arena.proofs.Links.{IsCell, nothing_found}
 use Rattle.dom_arena.proofs.Family.{found_node}
@@ -60,3 +63,32 @@ module _ (slots : List Slot) (f : Forest) (stands : Stands slots f) (p i : ℕ) 
 
   pub not_refused : IsUsed slots p → may_hold (slot_at slots p).payload ≡ true → i ≤ length (tops (children (find p (rooted f)))) → place_among p i (find p (rooted f)) ≡ None
   not_refused used t h = good_place (slot_at slots) p i (find p (rooted f)) (found_node slots f stands p used) t h
+
+-- ---- changes of attributes
+
+module _ (slots : List Slot) (f : Forest) (stands : Stands slots f) (n : ℕ) (nz : n ≡ 0 → ⊥) where
+  attrs_by : (g : Forest) (o : Option DomError) → element_among n g ≡ o → cond (n == 0) (Some IsDocument) (element_among n g) ≡ o
+  attrs_by g o h = rw (ne_eqb n 0 nz) h
+
+  pub attrs_no_node : (slot_at slots n).payload ≡ Free → cond (n == 0) (Some IsDocument) (element_among n (find n (rooted f))) ≡ Some (NoSuchNode n)
+  attrs_no_node h = attrs_by (find n (rooted f)) _ (ap (element_among n) (nothing_found slots f stands n h))
+
+  pub attrs_not_element : IsUsed slots n → is_element (slot_at slots n).payload ≡ false → cond (n == 0) (Some IsDocument) (element_among n (find n (rooted f))) ≡ Some (NotElement n)
+  attrs_not_element used h = attrs_by (find n (rooted f)) _ (of_cell (find n (rooted f)) (found_node slots f stands n used))
+    where
+      of_cell : (g : Forest) → IsCell (slot_at slots) n g → element_among n g ≡ Some (NotElement n)
+      of_cell empty c = absurd c
+      of_cell (node m document kids later) c = refl
+      of_cell (node m (element name attrs) kids later) c = let e : true ≡ false = ap is_element (sym c.3) ∙ h in cc
+      of_cell (node m (text bytes) kids later) c = refl
+      of_cell (node m (comment bytes) kids later) c = refl
+
+  pub attrs_accepted : IsUsed slots n → is_element (slot_at slots n).payload ≡ true → cond (n == 0) (Some IsDocument) (element_among n (find n (rooted f))) ≡ None
+  attrs_accepted used h = attrs_by (find n (rooted f)) _ (of_cell (find n (rooted f)) (found_node slots f stands n used))
+    where
+      of_cell : (g : Forest) → IsCell (slot_at slots) n g → element_among n g ≡ None
+      of_cell empty c = absurd c
+      of_cell (node m document kids later) c = let e : false ≡ true = ap is_element (sym c.3) ∙ h in cc
+      of_cell (node m (element name attrs) kids later) c = refl
+      of_cell (node m (text bytes) kids later) c = let e : false ≡ true = ap is_element (sym c.3) ∙ h in cc
+      of_cell (node m (comment bytes) kids later) c = let e : false ≡ true = ap is_element (sym c.3) ∙ h in cc

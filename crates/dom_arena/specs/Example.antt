@@ -1,10 +1,11 @@
 -- The slots and the refusals, computed on a small page.
 use Rattle.std.specs.Prelude.{◌≡◌, List, [], ◌∷◌, codes, Some, None, refl}
 use Rattle.page_tree.specs.Forest.{document, element, text, comment, Forest, empty, node, Tree}
-use Rattle.dom_arena.specs.declared.refusals.DomError.TheVariants.{NoSuchNode, NotElement, BadPlace, TooDeep, TooManyNodes}
+use Rattle.dom_arena.specs.declared.refusals.DomError.TheVariants.{NoSuchNode, NotElement, BadPlace, IsDocument, TooDeep, TooManyNodes}
 use Rattle.dom_arena.specs.declared.table.Slot.{Slot}
 use Rattle.dom_arena.specs.Slots.{free, cell, with_link, with_back_link}
 use Rattle.dom_arena.specs.Linked.{tree_of}
+use Rattle.dom_arena.specs.Attributes.{content_at, with_attr_set, with_attr_dropped, attr_refused, place_of}
 use Rattle.dom_arena.specs.Refusals.{place_refused, limits_refused, add_refused, append_refused}
 
 -- <p>ab</p><!--c-->, where number 3 is given and gone
@@ -71,3 +72,32 @@ appended_node = refl
 
 not_appended : append_refused 4 tree ≡ Some (NotElement 4)
 not_appended = refl
+
+-- changes of attributes
+
+abbrev ids : Tree
+ids = record { nodes = node 1 (element (codes "p") ((codes "id", codes "top") ∷ (codes "class", []) ∷ [])) ab empty; next = 3 }
+
+attrs_of_the_document : attr_refused 0 ids ≡ Some IsDocument
+attrs_of_the_document = refl
+
+attrs_of_no_node : attr_refused 3 ids ≡ Some (NoSuchNode 3)
+attrs_of_no_node = refl
+
+attrs_of_a_text : attr_refused 2 ids ≡ Some (NotElement 2)
+attrs_of_a_text = refl
+
+attrs_of_an_element : attr_refused 1 ids ≡ None
+attrs_of_an_element = refl
+
+attr_set : content_at 1 (with_attr_set 1 (codes "id") (codes "x") ids) ≡ element (codes "p") ((codes "id", codes "x") ∷ (codes "class", []) ∷ [])
+attr_set = refl
+
+attr_dropped : content_at 1 (with_attr_dropped 1 (codes "id") ids) ≡ element (codes "p") ((codes "class", []) ∷ [])
+attr_dropped = refl
+
+place_of_class : place_of (codes "class") ((codes "id", codes "top") ∷ (codes "class", []) ∷ []) ≡ 1
+place_of_class = refl
+
+place_of_none : place_of (codes "lang") ((codes "id", codes "top") ∷ []) ≡ 1
+place_of_none = refl

@@ -2,4 +2,5 @@ pub mod Contents
 pub mod Slots
 pub mod Linked
 pub mod Refusals
+pub mod Attributes
 pub mod Example

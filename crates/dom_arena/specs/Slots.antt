@@ -2,6 +2,7 @@
 use Rattle.std.specs.Prelude.{◌≡◌, ℕ, ◌==◌, cond, List, Option, Some, None, slice_index_or, slice_set}
 use Rattle.page_tree.specs.Forest.{Content, Forest, empty, node, head}
 use Rattle.dom_arena.specs.Contents.{payload_of}
+use Rattle.dom_arena.specs.declared.kinds.Payload.{Payload}
 use Rattle.dom_arena.specs.declared.kinds.Payload.TheVariants.{Free}
 use Rattle.dom_arena.specs.declared.table.Slot.{Slot}
 
@@ -40,6 +41,10 @@ cell parent kids next previous c = record {
   previous = previous;
   payload = payload_of c;
 }
+
+-- the slots where that of a number holds this
+abbrev pub with_payload : ℕ → Payload → List Slot → List Slot
+with_payload n payload slots = slice_set slots n (record (slot_at slots n) { payload = payload })
 
 -- the slots with a link to a node n from the sibling before it, or from its parent where it is the first child
 abbrev pub with_link : ℕ → ℕ → ℕ → List Slot → List Slot

@@ -1,15 +1,20 @@
-ghost use Rattle.std.specs.Prelude.{◌≡◌, ◌<◌, IfOk, OnOk, OnErr, MatchOption, IsOkUnless, IsOk};
+ghost use Rattle.std.specs.Prelude.{◌≡◌, ◌<◌, true, Some, None, IfOk, IfErr, OnOk, OnErr, MatchOption, IsOkUnless, IsOk};
+ghost use Rattle.std.specs.Str.{str_to_ascii_lowercase};
 ghost use Rattle.page_tree.specs.Forest.{rooted, find, children, later_of, first, content, parent_in, previous_in, depth_in, behind, numbers, size, empty};
 ghost use Rattle.page_tree.specs.Edits.{added, appended};
 ghost use Rattle.page_tree.specs.Trees.{IsTree, IsOrdinary};
+ghost use Rattle.dom_arena.specs.Attributes.{attr_refused, with_attr_set, with_attr_dropped, is_element};
 ghost use Rattle.dom_arena.specs.Contents.{new_content, single};
+ghost use Rattle.dom_arena.specs.Linked.{Stands, tree_of};
 ghost use Rattle.dom_arena.specs.Refusals.{place_refused, add_refused, append_refused};
+ghost use Rattle.dom_arena.specs.Slots.{slot_at, IsUsed};
 
 use crate::kinds::{NewNode, NodeRef, Payload};
 use crate::places::{check_limits, find_end, find_place, push_between};
 use crate::refusals::DomError;
 use crate::table::{Slot, Table};
 use crate::walks::{depth_of, following, link};
+use listed::Text;
 use std::alloc::{AllocError, Global};
 use std::marker::Model;
 
@@ -21,6 +26,7 @@ use std::marker::Model;
 pub struct Dom {
     table: Table,
     nodes: u32,
+    alloc: Global,
 }
 
 impl Model for Dom {
@@ -52,7 +58,11 @@ impl Dom {
             previous: 0,
             payload: Payload::Document,
         })?;
-        Ok(Dom { table, nodes: 0 })
+        Ok(Dom {
+            table,
+            nodes: 0,
+            alloc,
+        })
     }
 
     /// What every tree keeps, for proofs: it does nothing.
@@ -182,4 +192,73 @@ impl Dom {
         self.nodes += 1;
         Ok(n)
     }
+
+    /// Gives an attribute of an element a value. The name is kept in lower case; an attribute that is there keeps its
+    /// place, and a new one goes last.
+    ///
+    /// Refused in this order: `IsDocument`, `NoSuchNode(n)`, `NotElement(n)`.
+    pub fn set_attr(&mut self, n: u32, name: &str, value: &str) -> Result<(), DomError>
+        ensures answer { MatchOption (attr_refused n self.old) (IsOkUnless result DomError.NoMemory) (λ e. result ≡ Err e) }
+        ensures tree { OnOk result (self.new ≡ with_attr_set n (str_to_ascii_lowercase name.now) value.now self.old) }
+        ensures err { OnErr result (self.new ≡ self.old) }
+    {
+        check_element(&self.table, n)?;
+        let name = lower_case(self.alloc, name)?;
+        let value = Text::of(self.alloc, value)?;
+        self.table.put_attr(n, name, value)?;
+        Ok(())
+    }
+
+    /// Takes an attribute of an element out; where it isn't there nothing changes. It takes no memory.
+    ///
+    /// Refused as `set_attr` is.
+    pub fn drop_attr(&mut self, n: u32, name: &str) -> Result<(), DomError>
+        ensures answer { MatchOption (attr_refused n self.old) (IsOk result) (λ e. result ≡ Err e) }
+        ensures tree { OnOk result (self.new ≡ with_attr_dropped n (str_to_ascii_lowercase name.now) self.old) }
+        ensures err { OnErr result (self.new ≡ self.old) }
+    {
+        check_element(&self.table, n)?;
+        self.table.take_attr(n, name);
+        Ok(())
+    }
+}
+
+// Whether n is an element, whose attributes can change.
+fn check_element(table: &Table, n: u32) -> Result<(), DomError>
+    requires { Stands table.now (tree_of table.now).nodes }
+    ensures refused { IfErr result (λ e. attr_refused n (tree_of table.now) ≡ Some e) }
+    ensures accepted { OnOk result (attr_refused n (tree_of table.now) ≡ None) }
+    ensures below { OnOk result (n ≡ 0 → ⊥) }
+    ensures used { OnOk result (IsUsed table.now n) }
+    ensures element { OnOk result (is_element (slot_at table.now n).payload ≡ true) }
+{
+    if n == 0 {
+        return Err(DomError::IsDocument);
+    }
+    match table.payload(n) {
+        None => Err(DomError::NoSuchNode(n)),
+        Some(payload) => {
+            if has_attrs(payload) {
+                Ok(())
+            } else {
+                Err(DomError::NotElement(n))
+            }
+        }
+    }
+}
+
+fn has_attrs(payload: &Payload) -> bool
+    ensures { result ≡ is_element payload.now }
+{
+    match payload {
+        Payload::Element { .. } => true,
+        _ => false,
+    }
+}
+
+fn lower_case(alloc: Global, text: &str) -> Result<Text, AllocError>
+    ensures { IfOk result (λ lower. lower ≡ str_to_ascii_lowercase text.now) }
+{
+    let lower = text.to_ascii_lowercase(alloc)?;
+    Text::of(alloc, lower.as_str())
 }

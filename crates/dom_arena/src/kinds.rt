@@ -1,7 +1,8 @@
-ghost use Rattle.std.specs.Prelude.{◌≡◌, ◌<◌, drop, length, MatchOption, OnSome, None, Some, slice_get};
+ghost use Rattle.std.specs.Prelude.{◌≡◌, MatchOption, None, Some, slice_get};
 ghost use Rattle.page_tree.specs.Forest.{name_of, bytes_of, attrs_of, value_at};
 ghost use Rattle.dom_arena.specs.Contents.{content_of, kind_of};
 
+use crate::attrs::{pair_at, value_in};
 use listed::{Listed, Text};
 use std::marker::Model;
 
@@ -112,27 +113,5 @@ impl<'a> NodeRef<'a> {
             Payload::Element { attrs, .. } => pair_at(attrs.as_slice(), i),
             _ => None,
         }
-    }
-}
-
-fn value_in<'a>(attrs: &'a [(Text, Text)], name: &str) -> Option<&'a str>
-    ensures { MatchOption result (value_at name.now attrs.now ≡ None) (λ value. value_at name.now attrs.now ≡ Some value.now) }
-{
-    for attr in attrs {
-        if attr.0.as_str() == name {
-            return Some(attr.1.as_str());
-        }
-    }
-    None
-}
-
-fn pair_at(attrs: &[(Text, Text)], i: usize) -> Option<(&str, &str)>
-    ensures { MatchOption result (slice_get attrs.now i ≡ None) (λ attr. slice_get attrs.now i ≡ Some (attr.0.now, attr.1.now)) }
-{
-    if i < attrs.len() {
-        let attr = &attrs[i];
-        Some((attr.0.as_str(), attr.1.as_str()))
-    } else {
-        None
     }
 }

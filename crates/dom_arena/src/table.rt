@@ -1,9 +1,15 @@
 //! The slots of all nodes by number. All access to them goes through here.
 ghost use Rattle.std.specs.Prelude.{◌≡◌, [], ◌∷◌, ◌++◌, length, slice_set, OnOk, OnErr, IfSome, IfNone};
-ghost use Rattle.dom_arena.specs.Slots.{slot_at, IsUsed};
+ghost use Rattle.std.specs.Str.{str_to_ascii_lowercase};
+ghost use Rattle.page_tree.specs.Edits.{with_attr, without_attr};
+ghost use Rattle.page_tree.specs.Trees.{AreAttributes, IsLowerCase};
+ghost use Rattle.dom_arena.specs.Attributes.{attrs_in, with_attrs};
+ghost use Rattle.dom_arena.specs.Slots.{slot_at, IsUsed, with_payload};
 ghost use Rattle.dom_arena.specs.declared.kinds.Payload.TheVariants.{Free};
 
+use crate::attrs::{put_attr, take_attr};
 use crate::kinds::Payload;
+use listed::Text;
 use std::alloc::{AllocError, Global};
 use std::marker::Model;
 
@@ -152,5 +158,27 @@ impl Table {
         ensures { self.new ≡ slice_set self.old n (record (slot_at self.old n) { previous = previous }) }
     {
         self.slots[n as usize].previous = previous;
+    }
+
+    /// Gives an attribute of the node n a value.
+    pub(crate) fn put_attr(&mut self, n: u32, name: Text, value: Text) -> Result<(), AllocError>
+        requires used { IsUsed self.old n }
+        requires attrs { AreAttributes (attrs_in (slot_at self.old n).payload) }
+        requires name { IsLowerCase name }
+        ensures ok { OnOk result (self.new ≡ with_payload n (with_attrs (with_attr name value (attrs_in (slot_at self.old n).payload)) (slot_at self.old n).payload) self.old) }
+        ensures err { OnErr result (self.new ≡ self.old) }
+    {
+        let slot = &mut self.slots[n as usize];
+        put_attr(&mut slot.payload, name, value)
+    }
+
+    /// Takes an attribute of the node n out.
+    pub(crate) fn take_attr(&mut self, n: u32, name: &str)
+        requires used { IsUsed self.old n }
+        requires attrs { AreAttributes (attrs_in (slot_at self.old n).payload) }
+        ensures { self.new ≡ with_payload n (with_attrs (without_attr (str_to_ascii_lowercase name.now) (attrs_in (slot_at self.old n).payload)) (slot_at self.old n).payload) self.old }
+    {
+        let slot = &mut self.slots[n as usize];
+        take_attr(&mut slot.payload, name);
     }
 }

@@ -1,0 +1,192 @@
+-- An element with other attributes, in the forest and in the slots.
+use Rattle.std.proofs.Common.{◌≡◌, ℕ, true, false, List, length, refl, sym, ◌∙◌, ap, subst, inl, inr, arith, length-set}
+use Rattle.std.specs.Prelude.{unwrap_or}
+use Rattle.page_tree.specs.Forest.{Content, document, element, text, comment, Forest, empty, node, Tree, rooted, count, size, height, head, find, content, name_of, attrs_of}
+use Rattle.page_tree.specs.Edits.{with_content, rewritten, with_attr, without_attr}
+use Rattle.page_tree.specs.Trees.{MayHave, IsGrown, IsOrdinary, AreOrdinary, AreAttributes, IsLowerCase}
+use Rattle.dom_arena.specs.declared.kinds.Payload.{Payload}
+use Rattle.dom_arena.specs.declared.table.Slot.{Slot}
+use Rattle.dom_arena.specs.Contents.{payload_of}
+use Rattle.dom_arena.specs.Slots.{slot_at, IsUsed, last_behind, cell, with_payload}
+use Rattle.dom_arena.specs.Linked.{Linked, Stands, IsArena, tree_of}
+use Rattle.dom_arena.specs.Attributes.{content_at, with_attr_set, with_attr_dropped, is_element, attrs_in, with_attrs}
+use Rattle.dom_arena.proofs.Links.{same_cases, IsCell, or_else-empty, used_inside, stands_used}
+use Rattle.dom_arena.proofs.Grafts.{slot_at-set_same, slot_at-set_other}
+use Rattle.dom_arena.proofs.Family.{found_node}
+use Rattle.dom_arena.proofs.Ordinary.{AreOrdinary-find}
+use Rattle.dom_arena.proofs.Added.{tree_of-stands, Stands-viewed}
+use Rattle.dom_arena.proofs.Attributes.{AreAttributes-with_attr, AreAttributes-without_attr}
+
+-- ---- in the forest only contents change
+
+module _ (k : ℕ) (new : Content) where
+  head-with_content : (f : Forest) → head (with_content k new f) ≡ head f
+  head-with_content empty = refl
+  head-with_content (node n c kids later) = refl
+
+  last_behind-with_content : (b : ℕ) (f : Forest) → last_behind b (with_content k new f) ≡ last_behind b f
+  last_behind-with_content b empty = refl
+  last_behind-with_content b (node n c kids later) = last_behind-with_content n later
+
+  cell-with_content : (parent : ℕ) (kids later : Forest) (previous : ℕ) (c : Content) → cell parent (with_content k new kids) (head (with_content k new later)) previous c ≡ cell parent kids (head later) previous c
+  cell-with_content parent kids later previous c = rw (head-with_content kids, head-with_content later, last_behind-with_content 0 kids) refl
+
+  count-with_content : (j : ℕ) (f : Forest) → count j (with_content k new f) ≡ count j f
+  count-with_content j empty = refl
+  count-with_content j (node n c kids later) = rw (count-with_content j kids, count-with_content j later) refl
+
+  size-with_content : (f : Forest) → size (with_content k new f) ≡ size f
+  size-with_content empty = refl
+  size-with_content (node n c kids later) = rw (size-with_content kids, size-with_content later) refl
+
+  height-with_content : (f : Forest) → height (with_content k new f) ≡ height f
+  height-with_content empty = refl
+  height-with_content (node n c kids later) = rw (height-with_content kids, height-with_content later) refl
+
+  MayHave-with_content : (c : Content) (kids : Forest) → MayHave c kids → MayHave c (with_content k new kids)
+  MayHave-with_content document kids h = tt
+  MayHave-with_content (element name attrs) kids h = tt
+  MayHave-with_content (text bytes) kids h = rw h refl
+  MayHave-with_content (comment bytes) kids h = rw h refl
+
+  IsGrown-with_content : (f : Forest) → ((kids : Forest) → MayHave new kids) → IsGrown f → IsGrown (with_content k new f)
+  IsGrown-with_content empty may h = tt
+  IsGrown-with_content (node n c kids later) may h =
+      elim (same_cases k n) [
+        | inl q ↦ rw q.2 (may (with_content k new kids), IsGrown-with_content kids may h.1, IsGrown-with_content later may h.2)
+        | inr q ↦ rw q.2 (MayHave-with_content c kids h.0, IsGrown-with_content kids may h.1, IsGrown-with_content later may h.2)
+      ]
+
+  AreOrdinary-with_content : (f : Forest) → IsOrdinary new → AreOrdinary f → AreOrdinary (with_content k new f)
+  AreOrdinary-with_content empty ordinary h = tt
+  AreOrdinary-with_content (node n c kids later) ordinary h =
+      elim (same_cases k n) [
+        | inl q ↦ rw q.2 (ordinary, AreOrdinary-with_content kids ordinary h.1, AreOrdinary-with_content later ordinary h.2)
+        | inr q ↦ rw q.2 (h.0, AreOrdinary-with_content kids ordinary h.1, AreOrdinary-with_content later ordinary h.2)
+      ]
+
+-- slots that differ in what one of them holds
+Linked-with_content : (s s' : ℕ → Slot) (k : ℕ) (new : Content) (f : Forest) (parent previous : ℕ) → Linked s parent previous f
+    → s' k ≡ record (s k) { payload = payload_of new } → ((j : ℕ) → (j ≡ k → ⊥) → s' j ≡ s j) → Linked s' parent previous (with_content k new f)
+Linked-with_content s s' k new empty parent previous l at keep = tt
+Linked-with_content s s' k new (node n c kids later) parent previous l at keep =
+    elim (same_cases k n) [
+      | inl q ↦
+          let e : s' n ≡ cell parent (with_content k new kids) (head (with_content k new later)) previous new =
+          ap s' (sym q.0) ∙ at ∙ ap (λ (x : Slot). record x { payload = payload_of new }) (ap s q.0 ∙ l.0) ∙ sym (cell-with_content k new parent kids later previous new) in
+          rw q.2 (e, Linked-with_content s s' k new kids n 0 l.1 at keep, Linked-with_content s s' k new later parent n l.2 at keep)
+      | inr q ↦
+          let e : s' n ≡ cell parent (with_content k new kids) (head (with_content k new later)) previous c =
+          keep n (λ e. q.0 (sym e)) ∙ l.0 ∙ sym (cell-with_content k new parent kids later previous c) in
+          rw q.2 (e, Linked-with_content s s' k new kids n 0 l.1 at keep, Linked-with_content s s' k new later parent n l.2 at keep)
+    ]
+
+-- ---- the element of a slot
+
+-- what the slot of an element holds, beside what the tree has
+pub record HoldsElement (slots : List Slot) (k : ℕ) (c : Content) : Type 0 where
+  pub payload : (slot_at slots k).payload ≡ payload_of (element (name_of c) (attrs_of c))
+  pub ordinary : IsOrdinary (element (name_of c) (attrs_of c))
+
+module _ (slots : List Slot) (f : Forest) (stands : Stands slots f) (k : ℕ) (used : IsUsed slots k) (nz : k ≡ 0 → ⊥) (is : is_element (slot_at slots k).payload ≡ true) where
+  pub holds_element : HoldsElement slots k (content_at k (record { nodes = f; next = length slots }))
+  holds_element = of_found (find k (rooted f)) (found_node slots f stands k used) found_ordinary
+    where
+      below : find k (rooted f) ≡ find k f
+      below = elim (same_cases k 0) [ inl q ↦ absurd (nz q.0) | inr q ↦ rw q.2 (or_else-empty (find k f)) ]
+
+      found_ordinary : AreOrdinary (find k (rooted f))
+      found_ordinary = subst AreOrdinary (sym below) (AreOrdinary-find k f stands.tree.ordinary)
+
+      of_found : (g : Forest) → IsCell (slot_at slots) k g → AreOrdinary g → HoldsElement slots k (unwrap_or (content g) document)
+      of_found empty h o = absurd h
+      of_found (node n document kids later) h o = absurd o.0
+      of_found (node n (element name attrs) kids later) h o = record { payload = h.3; ordinary = o.0 }
+      of_found (node n (text bytes) kids later) h o = let e : false ≡ true = ap is_element (sym h.3) ∙ is in cc
+      of_found (node n (comment bytes) kids later) h o = let e : false ≡ true = ap is_element (sym h.3) ∙ is in cc
+
+-- ---- the slots with other attributes stand for the tree with them
+
+module _ (slots : List Slot) (f : Forest) (stands : Stands slots f) (k : ℕ) (used : IsUsed slots k) (nz : k ≡ 0 → ⊥) (name : List ℕ) (attrs : List (List ℕ × List ℕ)) (ordinary : IsOrdinary (element name attrs)) where
+  abbrev new : Content
+  new = element name attrs
+
+  abbrev new_slots : List Slot
+  new_slots = with_payload k (payload_of new) slots
+
+  at_k : slot_at new_slots k ≡ record (slot_at slots k) { payload = payload_of new }
+  at_k = slot_at-set_same slots k _ (used_inside slots k used)
+
+  kept : (j : ℕ) → (j ≡ k → ⊥) → slot_at new_slots j ≡ slot_at slots j
+  kept j ne = slot_at-set_other slots k j _ ne
+
+  root_kept : Linked (slot_at new_slots) 0 0 (rooted (with_content k new f))
+  root_kept =
+      elim (same_cases k 0) [
+        | inl q ↦ absurd (nz q.0)
+        | inr q ↦ let l = Linked-with_content (slot_at slots) (slot_at new_slots) k new (rooted f) 0 0 stands.linked at_k kept in rw q.2 at l
+      ]
+
+  counted : (j : ℕ) → count j (rooted (with_content k new f)) ≡ count j (rooted f)
+  counted j = rw (count-with_content k new j f) refl
+
+  length_new : length new_slots ≡ length slots
+  length_new = length-set slots k _
+
+  pub Stands-rewritten : Stands new_slots (with_content k new f)
+  Stands-rewritten = record {
+    linked = root_kept;
+    others = λ j z. kept j (λ e. omega (arith, counted j, stands_used slots f stands k used, ap (λ (i : ℕ). count i (rooted f)) e)) ∙ stands.others j (omega (arith, counted j));
+    tree = record {
+      once = λ j. omega (arith, counted j, stands.tree.once j);
+      below = λ j le. omega (arith, counted j, stands.tree.below j (omega (arith, length_new)));
+      grown = IsGrown-with_content k new f (λ _. tt) stands.tree.grown;
+      ordinary = AreOrdinary-with_content k new f ordinary stands.tree.ordinary;
+      few = omega (arith, size-with_content k new f, stands.tree.few);
+      low = omega (arith, height-with_content k new f, stands.tree.low);
+    };
+    fits = omega (arith, size-with_content k new f, length_new, stands.fits);
+  }
+
+-- all of it, from what a body says of its write
+pub rewritten_arena : (slots : List Slot) (nodes k : ℕ) (name : List ℕ) (attrs : List (List ℕ × List ℕ)) (made : List Slot) → IsArena slots nodes → IsUsed slots k → (k ≡ 0 → ⊥)
+    → IsOrdinary (element name attrs) → made ≡ with_payload k (payload_of (element name attrs)) slots
+    → IsArena made nodes × (tree_of made ≡ rewritten k (element name attrs) (tree_of slots))
+rewritten_arena slots nodes k name attrs made arena used nz ordinary e =
+    let f : Forest = (tree_of slots).nodes in
+    let stands : Stands (with_payload k (payload_of (element name attrs)) slots) (with_content k (element name attrs) f) = Stands-rewritten slots f arena.stands k used nz name attrs ordinary in
+    let same_tree : tree_of made ≡ rewritten k (element name attrs) (tree_of slots) =
+    ap tree_of e ∙ tree_of-stands _ _ stands ∙ ap (λ (n : ℕ). record { nodes = with_content k (element name attrs) f; next = n }) (length-set slots k _) in (
+      record {
+        stands = subst (λ (l : List Slot). Stands l (tree_of l).nodes) (sym e) (Stands-viewed _ _ stands);
+        counted = arena.counted ∙ sym (ap (λ (t : Tree). size t.nodes) same_tree ∙ size-with_content k (element name attrs) f);
+      },
+      same_tree,
+    )
+
+-- an attribute put and one taken, from what the table says of its write
+module _ (slots : List Slot) (nodes k : ℕ) (arena : IsArena slots nodes) (used : IsUsed slots k) (nz : k ≡ 0 → ⊥) (is : is_element (slot_at slots k).payload ≡ true) where
+  abbrev here : Content
+  here = content_at k (tree_of slots)
+
+  held : HoldsElement slots k here
+  held = holds_element slots (tree_of slots).nodes arena.stands k used nz is
+
+  pub attrs_kept : AreAttributes (attrs_in (slot_at slots k).payload)
+  attrs_kept = subst (λ (p : Payload). AreAttributes (attrs_in p)) (sym held.payload) held.ordinary.1
+
+  pub put_arena : (name value : List ℕ) (made : List Slot) → IsLowerCase name
+      → made ≡ with_payload k (with_attrs (with_attr name value (attrs_in (slot_at slots k).payload)) (slot_at slots k).payload) slots
+      → IsArena made nodes × (tree_of made ≡ with_attr_set k name value (tree_of slots))
+  put_arena name value made low e =
+      rewritten_arena slots nodes k (name_of here) (with_attr name value (attrs_of here)) made arena used nz
+      (held.ordinary.0, AreAttributes-with_attr name value (attrs_of here) low held.ordinary.1)
+      (e ∙ ap (λ (p : Payload). with_payload k (with_attrs (with_attr name value (attrs_in p)) p) slots) held.payload)
+
+  pub take_arena : (name : List ℕ) (made : List Slot)
+      → made ≡ with_payload k (with_attrs (without_attr name (attrs_in (slot_at slots k).payload)) (slot_at slots k).payload) slots
+      → IsArena made nodes × (tree_of made ≡ with_attr_dropped k name (tree_of slots))
+  take_arena name made e =
+      rewritten_arena slots nodes k (name_of here) (without_attr name (attrs_of here)) made arena used nz
+      (held.ordinary.0, AreAttributes-without_attr name (attrs_of here) held.ordinary.1)
+      (e ∙ ap (λ (p : Payload). with_payload k (with_attrs (without_attr name (attrs_in p)) p) slots) held.payload)
