@@ -1,0 +1,117 @@
+// What a line of a script says.
+ghost use Rattle.std.specs.Prelude.{◌≡◌, option_copied, IfOk};
+ghost use Rattle.std.specs.List.{list_all};
+ghost use Rattle.std.specs.Str.{str_to_ascii_lowercase};
+ghost use Rattle.cos_source.specs.Spaces.{is_space};
+ghost use Rattle.mutation_script.specs.Lines.{attr_line, unset_line, is_later_word, by_word, mutation_of, script_line};
+ghost use Rattle.mutation_script.specs.Reads.{Gives};
+
+use crate::fields::{at_end, cut, name_field, number_field};
+use crate::{BadLine, Mutation, ScriptLine};
+use cos_source::is_space;
+use listed::Text;
+use std::alloc::{AllocError, Global};
+
+// Why no mutation was read.
+#[derive(Clone, Copy, Debug)]
+pub(crate) enum LineError {
+    Bad(BadLine),
+    NoMemory,
+}
+
+impl From<BadLine> for LineError {
+    ghost use Rattle.mutation_script.specs.declared.lines.LineError.TheVariants.{Bad};
+
+    ghost from_gives = { λ cause error. error ≡ Bad cause };
+
+    fn from(cause: BadLine) -> Self {
+        LineError::Bad(cause)
+    }
+}
+
+impl From<AllocError> for LineError {
+    ghost use Rattle.mutation_script.specs.declared.lines.LineError.TheVariants.{NoMemory};
+
+    ghost from_gives = { λ _ error. error ≡ NoMemory };
+
+    fn from(_: AllocError) -> Self {
+        LineError::NoMemory
+    }
+}
+
+/// Reads a line of a script, given without what ends it.
+///
+/// `attr N NAME VALUE` and `unset N NAME` are read. A line whose first field is `text`, `insert`, `delete`, `move` or `path`
+/// is `Bad(NotYet)`; a line of white space alone is `Blank`. The cause of a bad line is the first of `NotUtf8`,
+/// `UnknownWord`, then from field to field `MissingField`, `BadNumber` and `BadName`, and at last `ExtraField`.
+pub fn read_line(alloc: Global, bytes: &[u8]) -> Result<ScriptLine, AllocError>
+    ensures { IfOk result (λ line. line ≡ script_line bytes.now) }
+{
+    if is_blank(bytes) {
+        return Ok(ScriptLine::Blank);
+    }
+    let Ok(line) = str::from_utf8(bytes) else {
+        return Ok(ScriptLine::Bad(BadLine::NotUtf8));
+    };
+    match mutation_of(alloc, line) {
+        Ok(mutation) => Ok(ScriptLine::Mutation(mutation)),
+        Err(LineError::Bad(cause)) => Ok(ScriptLine::Bad(cause)),
+        Err(LineError::NoMemory) => Err(AllocError),
+    }
+}
+
+fn is_blank(bytes: &[u8]) -> bool
+    ensures { result ≡ list_all is_space bytes.now }
+{
+    bytes.iter().all(|byte| is_space(*byte))
+}
+
+fn mutation_of(alloc: Global, line: &str) -> Result<Mutation, LineError>
+    ensures { Gives result (mutation_of line.now) }
+{
+    let (word, rest) = cut(line);
+    if word == "attr" {
+        attr_line(alloc, rest)
+    } else if word == "unset" {
+        unset_line(alloc, rest)
+    } else if is_later_word(word) {
+        Err(LineError::Bad(BadLine::NotYet))
+    } else {
+        Err(LineError::Bad(BadLine::UnknownWord))
+    }
+}
+
+fn is_later_word(word: &str) -> bool
+    ensures { result ≡ is_later_word word.now }
+{
+    word == "text" || word == "insert" || word == "delete" || word == "move" || word == "path"
+}
+
+// `attr N NAME VALUE`
+fn attr_line(alloc: Global, rest: Option<&str>) -> Result<Mutation, LineError>
+    ensures { Gives result (attr_line (option_copied rest.entry)) }
+{
+    let (n, rest) = number_field(rest)?;
+    let (name, rest) = name_field(rest)?;
+    let name = lower_case(alloc, name)?;
+    let value = Text::of(alloc, rest.unwrap_or(""))?;
+    Ok(Mutation::SetAttr { n, name, value })
+}
+
+// `unset N NAME`
+fn unset_line(alloc: Global, rest: Option<&str>) -> Result<Mutation, LineError>
+    ensures { Gives result (unset_line (option_copied rest.entry)) }
+{
+    let (n, rest) = number_field(rest)?;
+    let (name, rest) = name_field(rest)?;
+    at_end(rest)?;
+    let name = lower_case(alloc, name)?;
+    Ok(Mutation::DropAttr { n, name })
+}
+
+fn lower_case(alloc: Global, name: &str) -> Result<Text, AllocError>
+    ensures { IfOk result (λ lower. lower ≡ str_to_ascii_lowercase name.now) }
+{
+    let lower = name.to_ascii_lowercase(alloc)?;
+    Text::of(alloc, lower.as_str())
+}
