@@ -1,3 +1,4 @@
 mod Cuts
 mod Numerals
 mod Texts
+pub mod Built

@@ -1,4 +1,6 @@
 pub mod Fields
 pub mod Lines
 pub mod Reads
+pub mod Changes
 pub mod Example
+pub mod ChangesExample

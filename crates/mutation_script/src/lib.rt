@@ -2,6 +2,7 @@
 //!
 //! A line begins with a word, and fields follow it, each behind one space. `specs/Fields.antt` says what a field is,
 //! `Lines.antt` has a row for each word and what a whole line says, and `Example.antt` computes lines of each kind.
+//! `Changes.antt` says what a mutation does to a page, and how each line is answered.
 #![tactic(auto)]
 
 mod fields;
