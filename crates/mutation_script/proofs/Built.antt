@@ -23,21 +23,24 @@ says_built (says.Mutation mutation) = is_built mutation
 says_built says.Blank = true
 says_built (says.Bad cause) = true
 
-then_built : {A : Type 0} (read : Result A BadLine) (next : A → Result Mutation BadLine) → ((value : A) → reads_built (next value) ≡ true) → reads_built (read >>= next) ≡ true
+-- a mutation that is read behind another field
+then_built : {A : Type 0} (read : Result A BadLine) (next : A → Result Mutation BadLine) → ((value : A) → reads_built (next value) ≡ true)
+    → reads_built (read >>= next) ≡ true
 then_built (Ok value) next h = h value
 then_built (Err cause) next h = refl
 
+-- a mutation where the line ends
 at_end_built : (mutation : Mutation) (rest : Option (List ℕ)) → is_built mutation ≡ true → reads_built (at_end mutation rest) ≡ true
 at_end_built mutation None h = h
 at_end_built mutation (Some text) h = refl
 
+-- each row, each choice of a row, and each line
 attr_line_built : (rest : Option (List ℕ)) → reads_built (attr_line rest) ≡ true
 attr_line_built rest = then_built (number_field rest) _ (λ n. then_built (name_field n.1) _ (λ name. refl))
 
 unset_line_built : (rest : Option (List ℕ)) → reads_built (unset_line rest) ≡ true
 unset_line_built rest = then_built (number_field rest) _ (λ n. then_built (name_field n.1) _ (λ name. at_end_built _ name.1 refl))
 
--- of two that were read, each built
 either_built : (test : Bool) (x y : Result Mutation BadLine) → reads_built x ≡ true → reads_built y ≡ true → reads_built (cond test x y) ≡ true
 either_built true x y h k = h
 either_built false x y h k = k

@@ -22,7 +22,8 @@ unless_refused None tree page = Ok (record page { tree = tree })
 unless_refused (Some refusal) tree page = Err refusal
 
 -- The page changed by a mutation, or its first refusal: what the call of the same name on a tree gives. Only the first two
--- are built, and only they are read (`is_built`); of the others nothing is said yet, and the page stays.
+-- are built yet, and no line is read as another one (`script_line_built` in proofs/Built.antt). Of the others nothing is
+-- said: that the page stays is no promise.
 abbrev pub change : Mutation → PageState → Result PageState DomError
 change (SetAttr n name value) page =
     unless_refused (attr_refused n page.tree) (with_attr_set n (str_to_ascii_lowercase name) value page.tree) page
@@ -34,7 +35,7 @@ change (Delete n) page = Ok page
 change (Relink n parent place) page = Ok page
 change (Path path) page = Ok page
 
--- the mutations that `change` speaks of
+-- the mutations that are built
 abbrev pub is_built : Mutation → Bool
 is_built (SetAttr n name value) = true
 is_built (DropAttr n name) = true
