@@ -31,6 +31,7 @@ tree_of-stands slots f stands =
 counted_apart : (k j : ℕ) (f : Forest) → 0 < count k f → count j f ≡ 0 → k ≡ j → ⊥
 counted_apart k j f h z e = let w : count k f ≡ 0 = ap (λ i. count i f) e ∙ z in omega arith
 
+-- slots that stand for a forest stand for the one that they are seen as
 pub Stands-viewed : (slots : List Slot) (f : Forest) → Stands slots f → Stands slots (tree_of slots).nodes
 Stands-viewed slots f stands = subst (λ (t : Tree). Stands slots t.nodes) (sym (tree_of-stands slots f stands)) stands
 
@@ -67,6 +68,7 @@ after_not_before (suc i) b (node m d ks ls) once nb z ne e =
 module _ (slots : List Slot) (f : Forest) (stands : Stands slots f) (p i : ℕ) (c : Content)
     (used : IsUsed slots p) (holds : may_hold (slot_at slots p).payload ≡ true) (childless : MayHave c empty) (ordinary : IsOrdinary c)
     (le : i ≤ length (tops (children (find p (rooted f))))) (e : ℕ) (deep : depth_in p 0 (rooted f) ≡ Some e) (shallow : e < 512) (few : size f < 1000000) where
+  -- the children before, the numbers beside the place, and what there is after
   abbrev kids : Forest
   kids = children (find p (rooted f))
 
@@ -85,6 +87,7 @@ module _ (slots : List Slot) (f : Forest) (stands : Stands slots f) (p i : ℕ) 
   abbrev new_nodes : Forest
   new_nodes = children (with_children p grown_kids (rooted f))
 
+  -- what the slots say of the children, and that the numbers beside the place differ from each other and from the parent
   fam : Family slots p kids
   fam = family slots f stands p used
 
@@ -115,9 +118,11 @@ module _ (slots : List Slot) (f : Forest) (stands : Stands slots f) (p i : ℕ) 
   a_not_b : (after ≡ 0 → ⊥) → after ≡ before → ⊥
   a_not_b ne = after_not_before i 0 kids fam.once fam.no_zero fam.no_zero ne
 
+  -- a slot beside those written stays
   stay : (k : ℕ) → (k ≡ length slots → ⊥) → (k ≡ p → ⊥) → ((before ≡ 0 → ⊥) → k ≡ before → ⊥) → ((after ≡ 0 → ⊥) → k ≡ after → ⊥) → slot_at new_slots k ≡ slot_at slots k
   stay = kept slots (cell p empty after before c) p before after fam.present b_in a_in b_not_p a_not_p a_not_b
 
+  -- the new number is of no node yet
   not_new : (k : ℕ) → 0 < count k (rooted f) → k ≡ length slots → ⊥
   not_new k h e = omega (arith, inside_slots slots f stands k h)
 
@@ -138,15 +143,18 @@ module _ (slots : List Slot) (f : Forest) (stands : Stands slots f) (p i : ℕ) 
       at_parent slots (cell p empty after before c) p before after fam.present b_in a_in b_not_p a_not_p a_not_b (head grown_kids) (last grown_kids)
       heads.0 (λ ne. heads.1 ne ∙ sym fam.first) lasts.0 (λ ne. lasts.1 ne ∙ sym fam.last)
 
+  -- the whole tree
   linked : Linked (slot_at new_slots) 0 0 (with_children p grown_kids (rooted f))
   linked = Linked-rooted (slot_at slots) (slot_at new_slots) p grown_kids f stands.linked parent_slot below (λ k h np parent.
       stay k (not_new k h) np
       (λ nb e. parent (ap (λ (j : ℕ). (slot_at slots j).parent) e ∙ before-parent (slot_at slots) p i 0 kids fam.linked nb))
       (λ na e. parent (ap (λ (j : ℕ). (slot_at slots j).parent) e ∙ after-parent (slot_at slots) p i 0 kids fam.linked na)))
 
+  -- each number stands as often as before, and the new one once more
   total : (k : ℕ) → count k (with_children p grown_kids (rooted f)) ≡ count k (rooted f) + same k (length slots)
   total k = omega (arith, count-with_children (slot_at slots) k p grown_kids (rooted f) 0 0 stands.linked p_counted, count-insert k i (node (length slots) c empty empty) kids)
 
+  -- the other slots are free
   others : (k : ℕ) → count k (with_children p grown_kids (rooted f)) ≡ 0 → slot_at new_slots k ≡ free
   others k z =
       let gone : count k (rooted f) ≡ 0 = omega (arith, total k) in
@@ -155,6 +163,7 @@ module _ (slots : List Slot) (f : Forest) (stands : Stands slots f) (p i : ℕ) 
       (λ na e. counted_apart after k (rooted f) (omega (arith, after_counted na, kids_inside after)) gone (sym e))
       ∙ stands.others k gone
 
+  -- sizes and numbers
   size_new : size (with_children p grown_kids (rooted f)) ≡ size f + 2
   size_new = omega (arith, size-with_children (slot_at slots) p grown_kids (rooted f) 0 0 stands.linked p_counted, size-insert i (node (length slots) c empty empty) kids)
 
@@ -173,6 +182,7 @@ module _ (slots : List Slot) (f : Forest) (stands : Stands slots f) (p i : ℕ) 
     | inr q ↦ omega (arith, total k, stands.tree.below k (omega (arith, length_new)))
   ]
 
+  -- only elements have children, names are kept, and the limits too
   grown : IsGrown (with_children p grown_kids (rooted f))
   grown =
       IsGrown-with_children (slot_at slots) p grown_kids (rooted f) 0 0 stands.linked
@@ -207,6 +217,7 @@ module _ (slots : List Slot) (f : Forest) (stands : Stands slots f) (p i : ℕ) 
       let bounds = heights (slot_at slots) p grown_kids (rooted f) 0 e 513 0 0 stands.linked p_counted deep (omega (arith, stands.tree.low)) in
       omega (arith, bounds.0, bounds.1 (omega (arith, bounds.0, height-insert i (node (length slots) c empty empty) kids)))
 
+  -- so the slots stand for the tree with the new node
   pub Stands-added : Stands new_slots new_nodes
   Stands-added = record {
     linked = linked;
@@ -261,6 +272,7 @@ pub before_place-end : (b : ℕ) (f : Forest) → before_place b (length (tops f
 before_place-end b empty = refl
 before_place-end b (node n c ks later) = before_place-end n later
 
+-- no node stands behind the last child
 pub from_place-end : (f : Forest) → head (from_place (length (tops f)) f) ≡ 0
 from_place-end empty = refl
 from_place-end (node n c ks later) = from_place-end later

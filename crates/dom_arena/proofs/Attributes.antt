@@ -24,6 +24,7 @@ text_cases a b = by_test (bytes_eq a b) refl
 
 -- ---- the place of a name
 
+-- an attribute of the name looked for is at place 0
 pub place_of-here : (name : List ℕ) (a : List ℕ × List ℕ) (attrs : List (List ℕ × List ℕ)) → AreAttributes (a ∷ attrs) → str_to_ascii_lowercase a.0 ≡ str_to_ascii_lowercase name → place_of (str_to_ascii_lowercase name) (a ∷ attrs) ≡ 0
 place_of-here name a attrs h e =
     elim (text_cases a.0 (str_to_ascii_lowercase name)) [
@@ -31,6 +32,7 @@ place_of-here name a attrs h e =
       | inr p ↦ absurd (p.0 (sym h.0 ∙ e))
     ]
 
+-- one of another name is passed by
 pub place_of-further : (name : List ℕ) (a : List ℕ × List ℕ) (attrs : List (List ℕ × List ℕ)) → AreAttributes (a ∷ attrs) → (str_to_ascii_lowercase a.0 ≡ str_to_ascii_lowercase name → ⊥) → place_of (str_to_ascii_lowercase name) (a ∷ attrs) ≡ suc (place_of (str_to_ascii_lowercase name) attrs)
 place_of-further name a attrs h ne =
     elim (text_cases a.0 (str_to_ascii_lowercase name)) [
@@ -39,6 +41,7 @@ place_of-further name a attrs h ne =
     ]
 
 module _ (name value : List ℕ) where
+  -- an attribute that is there is set at its place
   pub with_attr-found : (attrs : List (List ℕ × List ℕ)) → place_of name attrs < length attrs → with_attr name value attrs ≡ set attrs (place_of name attrs) (name, value)
   with_attr-found [] h = absurd (omega arith)
   with_attr-found (a ∷ attrs) h =
@@ -47,6 +50,7 @@ module _ (name value : List ℕ) where
         | inr p ↦ let h' = rw p.1 at h in rw p.1 (ap (λ (l : List (List ℕ × List ℕ)). a ∷ l) (with_attr-found attrs (omega arith)))
       ]
 
+  -- a new one goes last
   pub with_attr-new : (attrs : List (List ℕ × List ℕ)) → length attrs ≤ place_of name attrs → with_attr name value attrs ≡ attrs ++ (name, value) ∷ []
   with_attr-new [] h = refl
   with_attr-new (a ∷ attrs) h =
@@ -56,6 +60,7 @@ module _ (name value : List ℕ) where
       ]
 
 module _ (name : List ℕ) where
+  -- an attribute that is there goes from its place
   pub without_attr-found : (attrs : List (List ℕ × List ℕ)) → place_of name attrs < length attrs → without_attr name attrs ≡ remove attrs (place_of name attrs)
   without_attr-found [] h = absurd (omega arith)
   without_attr-found (a ∷ attrs) h =
@@ -64,6 +69,7 @@ module _ (name : List ℕ) where
         | inr p ↦ let h' = rw p.1 at h in rw p.1 (ap (λ (l : List (List ℕ × List ℕ)). a ∷ l) (without_attr-found attrs (omega arith)))
       ]
 
+  -- where there is none nothing goes
   pub without_attr-none : (attrs : List (List ℕ × List ℕ)) → length attrs ≤ place_of name attrs → without_attr name attrs ≡ attrs
   without_attr-none [] h = refl
   without_attr-none (a ∷ attrs) h =
@@ -82,6 +88,7 @@ value_at-rest x b attrs h =
       | inr p ↦ (p.1, rw p.1 at h)
     ]
 
+-- setting an attribute makes none of another name
 value_at-with_attr : (x name value : List ℕ) (attrs : List (List ℕ × List ℕ)) → (x ≡ name → ⊥) → value_at x attrs ≡ None → value_at x (with_attr name value attrs) ≡ None
 value_at-with_attr x name value [] ne h =
     elim (text_cases name x) [
@@ -98,6 +105,7 @@ value_at-with_attr x name value (b ∷ attrs) ne h =
       | inr p ↦ rw (p.1, rest.0) (value_at-with_attr x name value attrs ne rest.1)
     ]
 
+-- attributes stay so when one is set
 pub AreAttributes-with_attr : (name value : List ℕ) (attrs : List (List ℕ × List ℕ)) → IsLowerCase name → AreAttributes attrs → AreAttributes (with_attr name value attrs)
 AreAttributes-with_attr name value [] low h = (low, refl, tt)
 AreAttributes-with_attr name value (a ∷ attrs) low h =
@@ -106,6 +114,7 @@ AreAttributes-with_attr name value (a ∷ attrs) low h =
       | inr p ↦ rw p.1 (h.0, value_at-with_attr a.0 name value attrs p.0 h.1, AreAttributes-with_attr name value attrs low h.2)
     ]
 
+-- dropping an attribute makes none of another name
 value_at-without_attr : (x name : List ℕ) (attrs : List (List ℕ × List ℕ)) → value_at x attrs ≡ None → value_at x (without_attr name attrs) ≡ None
 value_at-without_attr x name [] h = refl
 value_at-without_attr x name (b ∷ attrs) h =
@@ -115,6 +124,7 @@ value_at-without_attr x name (b ∷ attrs) h =
       | inr p ↦ rw (p.1, rest.0) (value_at-without_attr x name attrs rest.1)
     ]
 
+-- attributes stay so when one is dropped
 pub AreAttributes-without_attr : (name : List ℕ) (attrs : List (List ℕ × List ℕ)) → AreAttributes attrs → AreAttributes (without_attr name attrs)
 AreAttributes-without_attr name [] h = tt
 AreAttributes-without_attr name (a ∷ attrs) h =

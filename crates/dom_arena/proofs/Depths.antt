@@ -11,6 +11,7 @@ use Rattle.dom_arena.proofs.Siblings.{same-same, same-eq}
 use Rattle.dom_arena.proofs.Family.{counted_used}
 use Rattle.dom_arena.proofs.Heights.{depth_in-none}
 
+-- a node is at the top, or one deeper than its parent
 pub depth_step : (s : ℕ → Slot) (k : ℕ) (f : Forest) (p b d : ℕ) → Linked s p b f → ((j : ℕ) → count j f ≤ 1) → count p f ≡ 0 → 0 < count k f
     → (((s k).parent ≡ p) × (depth_in k d f ≡ Some d)) ⊎ ((e : ℕ) × (0 < count (s k).parent f) × (depth_in (s k).parent d f ≡ Some e) × (depth_in k d f ≡ Some (suc e)))
 depth_step s k empty p b d l once np h = absurd (omega arith)
@@ -91,6 +92,7 @@ module _ (slots : List Slot) (f : Forest) (stands : Stands slots f) where
         | inr q ↦ rw q.2 (rw x refl)
       ]
 
+  -- each node has a depth
   pub depth_known : (k : ℕ) → IsUsed slots k → (e : ℕ) × (depth_in k 0 (rooted f) ≡ Some e)
   depth_known k used =
       elim (cases_eq k 0) [
@@ -105,5 +107,6 @@ module _ (slots : List Slot) (f : Forest) (stands : Stands slots f) where
       let up = depth_up k used nz in
       (up.0, counted_used slots f stands (slot_at slots k).parent up.1, up.2, up.3)
 
+-- the depth falls on the way up
 pub falls : (o p : Option ℕ) (e : ℕ) → o ≡ Some e → p ≡ Some (suc e) → unwrap_or o 0 < unwrap_or p 0
 falls o p e a b = rw (a, b) (omega arith)

@@ -19,6 +19,7 @@ pub record Family (slots : List Slot) (p : ℕ) (kids : Forest) : Type 0 where
   pub present : p < length slots
 
 module _ (slots : List Slot) (f : Forest) (stands : Stands slots f) where
+  -- a number in the forest is below the number of slots
   pub inside_slots : (k : ℕ) → 0 < count k (rooted f) → k < length slots
   inside_slots k h =
       elim (cases_lt k (length slots)) [
@@ -26,6 +27,7 @@ module _ (slots : List Slot) (f : Forest) (stands : Stands slots f) where
         | inr le ↦ absurd (omega (arith, stands.tree.below k le))
       ]
 
+  -- what the slots of a node say of its children
   pub family : (p : ℕ) → IsUsed slots p → Family slots p (children (find p (rooted f)))
   family p used =
       let inside : 0 < count p (rooted f) = stands_used slots f stands p used in
@@ -71,6 +73,7 @@ module _ (slots : List Slot) (f : Forest) (stands : Stands slots f) where
       of_cell empty c = c
       of_cell (node n c kids later) c' = payload_of-used c (sym c'.3 ∙ e)
 
+  -- children are nodes of the forest
   kids_inside : (p k : ℕ) → 0 < count k (children (find p (rooted f))) → 0 < count k (rooted f)
   kids_inside p k h = omega (arith, count-find k p (rooted f), count-parts k (find p (rooted f)))
 
@@ -82,6 +85,7 @@ module _ (slots : List Slot) (f : Forest) (stands : Stands slots f) where
         | inr h ↦ counted_used _ (kids_inside p _ h)
       ]
 
+  -- the number behind a place is that of a node, unless there is none
   pub after_used : (p i : ℕ) → (head (from_place i (children (find p (rooted f)))) ≡ 0 → ⊥) → IsUsed slots (head (from_place i (children (find p (rooted f)))))
   after_used p i ne =
       elim (from_place-in i (children (find p (rooted f)))) [

@@ -12,10 +12,12 @@ use Rattle.dom_arena.specs.Linked.{Linked, from_place, before_place}
 use Rattle.dom_arena.proofs.Links.{same_cases, find-none, IsCell, IsCell-find}
 use Rattle.dom_arena.proofs.Siblings.{same-same, same-eq}
 
+-- new children below change neither the first number nor the last
 pub head-with_children : (p : ℕ) (g f : Forest) → head (with_children p g f) ≡ head f
 head-with_children p g empty = refl
 head-with_children p g (node n c kids later) = refl
 
+-- the last number stays
 last_behind-with_children : (p b : ℕ) (g f : Forest) → last_behind b (with_children p g f) ≡ last_behind b f
 last_behind-with_children p b g empty = refl
 last_behind-with_children p b g (node n c kids later) = last_behind-with_children p n g later
@@ -24,6 +26,7 @@ last_behind-with_children p b g (node n c kids later) = last_behind-with_childre
 cell-with_children : (p : ℕ) (g : Forest) (parent : ℕ) (kids : Forest) (next previous : ℕ) (c : Content) → cell parent (with_children p g kids) next previous c ≡ cell parent kids next previous c
 cell-with_children p g parent kids next previous c = rw (head-with_children p g kids, last_behind-with_children p 0 g kids) refl
 
+-- where p is no node nothing changes
 pub with_children-none : (p : ℕ) (g f : Forest) → count p f ≡ 0 → with_children p g f ≡ f
 with_children-none p g empty h = refl
 with_children-none p g (node n c kids later) h =
@@ -32,6 +35,7 @@ with_children-none p g (node n c kids later) h =
       | inr q ↦ rw (q.2, with_children-none p g kids (omega arith), with_children-none p g later (omega arith)) refl
     ]
 
+-- what was found is not looked for further on
 pub find-some : (s : ℕ → Slot) (k : ℕ) (f g : Forest) → IsCell s k f → or_else f g ≡ f
 find-some s k empty g h = absurd h
 find-some s k (node n c kids later) g h = refl
@@ -51,24 +55,29 @@ count-with_children s k p g (node n c kids later) parent previous l h =
       ]
     ]
 
+-- how often a number stands in joined forests
 pub count-joined : (k : ℕ) (f g : Forest) → count k (joined f g) ≡ count k f + count k g
 count-joined k empty g = omega arith
 count-joined k (node n c kids later) g = omega (arith, count-joined k later g)
 
+-- how often a number stands after an insertion
 pub count-insert : (k i : ℕ) (new f : Forest) → count k (insert_at i new f) ≡ count k new + count k f
 count-insert k i new empty = omega arith
 count-insert k zero new (node n c kids later) = count-joined k new (node n c kids later)
 count-insert k (suc i) new (node n c kids later) = omega (arith, count-insert k i new later)
 
+-- the size of joined forests
 pub size-joined : (f g : Forest) → size (joined f g) ≡ size f + size g
 size-joined empty g = omega arith
 size-joined (node n c kids later) g = omega (arith, size-joined later g)
 
+-- the size after an insertion
 pub size-insert : (i : ℕ) (new f : Forest) → size (insert_at i new f) ≡ size new + size f
 size-insert i new empty = omega arith
 size-insert zero new (node n c kids later) = size-joined new (node n c kids later)
 size-insert (suc i) new (node n c kids later) = omega (arith, size-insert i new later)
 
+-- the size with new children in place of others
 pub size-with_children : (s : ℕ → Slot) (p : ℕ) (g f : Forest) (parent previous : ℕ) → Linked s parent previous f → count p f ≡ 1
     → size (with_children p g f) + size (children (find p f)) ≡ size f + size g
 size-with_children s p g empty parent previous l h = absurd (omega arith)
@@ -83,21 +92,25 @@ size-with_children s p g (node n c kids later) parent previous l h =
       ]
     ]
 
+-- only elements have children, in joined forests too
 IsGrown-joined : (f g : Forest) → IsGrown f → IsGrown g → IsGrown (joined f g)
 IsGrown-joined empty g a b = b
 IsGrown-joined (node n c kids later) g a b = (a.0, a.1, IsGrown-joined later g a.2 b)
 
+-- only elements have children after an insertion
 pub IsGrown-insert : (i : ℕ) (new f : Forest) → IsGrown new → IsGrown f → IsGrown (insert_at i new f)
 IsGrown-insert i new empty a b = a
 IsGrown-insert zero new (node n c kids later) a b = IsGrown-joined new (node n c kids later) a b
 IsGrown-insert (suc i) new (node n c kids later) a b = (b.0, b.1, IsGrown-insert i new later a b.2)
 
+-- what has no children gets none further below
 MayHave-with_children : (c : Content) (p : ℕ) (g kids : Forest) → MayHave c kids → MayHave c (with_children p g kids)
 MayHave-with_children document p g kids h = tt
 MayHave-with_children (element name attrs) p g kids h = tt
 MayHave-with_children (text bytes) p g kids h = rw h refl
 MayHave-with_children (comment bytes) p g kids h = rw h refl
 
+-- only elements have children where a node that may have them gets new ones
 pub IsGrown-with_children : (s : ℕ → Slot) (p : ℕ) (g f : Forest) (parent previous : ℕ) → Linked s parent previous f
     → ((c : Content) → payload_of c ≡ (s p).payload → MayHave c g) → IsGrown g → IsGrown f → IsGrown (with_children p g f)
 IsGrown-with_children s p g empty parent previous l may a b = tt
@@ -138,6 +151,7 @@ Linked-with_children s s' p g (node n c kids later) parent previous l ne at belo
           )
     ]
 
+-- the same with the document among the nodes
 pub Linked-rooted : (s s' : ℕ → Slot) (p : ℕ) (g f : Forest) → Linked s 0 0 (rooted f)
     → s' p ≡ record (s p) { first_child = head g; last_child = last g } → Linked s' p 0 g
     → ((k : ℕ) → 0 < count k (rooted f) → (k ≡ p → ⊥) → ((s k).parent ≡ p → ⊥) → s' k ≡ s k)
@@ -153,18 +167,22 @@ Linked-rooted s s' p g f l at below keep =
 
 -- ---- the places among siblings
 
+-- the siblings from a place on are linked
 pub Linked-from_place : (s : ℕ → Slot) (p i b : ℕ) (f : Forest) → Linked s p b f → Linked s p (before_place b i f) (from_place i f)
 Linked-from_place s p zero b f l = l
 Linked-from_place s p (suc i) b empty l = tt
 Linked-from_place s p (suc i) b (node n c kids later) l = Linked-from_place s p i n later l.2
 
+-- the first sibling leads to the parent
 head-parent : (s : ℕ → Slot) (p b : ℕ) (f : Forest) → Linked s p b f → (head f ≡ 0 → ⊥) → (s (head f)).parent ≡ p
 head-parent s p b empty l h = absurd (h refl)
 head-parent s p b (node n c kids later) l h = ap (λ (x : Slot). x.parent) l.0
 
+-- the sibling behind a place leads to the parent
 pub after-parent : (s : ℕ → Slot) (p i b : ℕ) (f : Forest) → Linked s p b f → (head (from_place i f) ≡ 0 → ⊥) → (s (head (from_place i f))).parent ≡ p
 after-parent s p i b f l h = head-parent s p (before_place b i f) (from_place i f) (Linked-from_place s p i b f l) h
 
+-- the sibling before a place leads to the parent
 pub before-parent : (s : ℕ → Slot) (p i b : ℕ) (f : Forest) → Linked s p b f → (before_place b i f ≡ b → ⊥) → (s (before_place b i f)).parent ≡ p
 before-parent s p zero b f l h = absurd (h refl)
 before-parent s p (suc i) b empty l h = absurd (h refl)
@@ -184,6 +202,7 @@ place_step s p (suc i) b (node n c kids later) l h =
     let r = place_step s p i n later l.2 h in
     (omega arith, r.1, r.2)
 
+-- where no sibling is left the place is past the last
 pub place_end : (i : ℕ) (f : Forest) → count 0 f ≡ 0 → head (from_place i f) ≡ 0 → length (tops f) ≤ i
 place_end i empty z h = omega arith
 place_end zero (node n c kids later) z h = absurd (omega (arith, same-eq 0 n (sym h)))
@@ -191,12 +210,15 @@ place_end (suc i) (node n c kids later) z h = omega (arith, place_end i later (o
 
 -- ---- slots after a write
 
+-- a written slot
 pub slot_at-set_same : (l : List Slot) (i : ℕ) (v : Slot) → i < length l → slot_at (set l i v) i ≡ v
 slot_at-set_same l i v h = get_or-set_same l i v free h
 
+-- the other slots stay
 pub slot_at-set_other : (l : List Slot) (i k : ℕ) (v : Slot) → (k ≡ i → ⊥) → slot_at (set l i v) k ≡ slot_at l k
 slot_at-set_other l i k v h = get_or-set_other l i k v free h
 
+-- a pushed slot changes no other
 pub slot_at-push : (l : List Slot) (v : Slot) (k : ℕ) → (k ≡ length l → ⊥) → slot_at (l ++ v ∷ []) k ≡ slot_at l k
 slot_at-push l v k h =
     elim (cases_lt k (length l)) [
@@ -204,5 +226,6 @@ slot_at-push l v k h =
       | inr le ↦ get_or_past (l ++ v ∷ []) k free (omega (arith, length_push l v)) ∙ sym (get_or_past l k free le)
     ]
 
+-- the pushed slot
 pub slot_at-pushed : (l : List Slot) (v : Slot) → slot_at (l ++ v ∷ []) (length l) ≡ v
 slot_at-pushed l v = get_or_push l v free (length l) refl

@@ -5,9 +5,10 @@ use Rattle.page_tree.specs.Forest.{Forest, empty, node, count, find, or_some, ch
 use Rattle.page_tree.specs.Edits.{joined, insert_at, with_children}
 use Rattle.dom_arena.specs.declared.table.Slot.{Slot}
 use Rattle.dom_arena.specs.Linked.{Linked}
-use Rattle.dom_arena.proofs.Links.{same_cases, find-none, IsCell-find}
+use Rattle.dom_arena.proofs.Links.{same_cases, or_none, find-none, IsCell-find}
 use Rattle.dom_arena.proofs.Grafts.{with_children-none, find-some}
 
+-- what is no node has no depth
 pub depth_in-none : (k d : ℕ) (f : Forest) → count k f ≡ 0 → depth_in k d f ≡ None
 depth_in-none k d empty h = refl
 depth_in-none k d (node n c kids later) h =
@@ -16,14 +17,12 @@ depth_in-none k d (node n c kids later) h =
       | inr q ↦ rw (q.2, depth_in-none k (suc d) kids (omega arith)) (depth_in-none k d later (omega arith))
     ]
 
-or_none : (o : Option ℕ) → or_some o None ≡ o
-or_none None = refl
-or_none (Some x) = refl
-
+-- the height of joined forests
 pub height-joined : (f g : Forest) → height (joined f g) ≤ max (height f) (height g)
 height-joined empty g = omega arith
 height-joined (node n c kids later) g = omega (arith, height-joined later g)
 
+-- the height after an insertion
 pub height-insert : (i : ℕ) (new f : Forest) → height (insert_at i new f) ≤ max (height new) (height f)
 height-insert i new empty = omega arith
 height-insert zero new (node n c kids later) = height-joined new (node n c kids later)

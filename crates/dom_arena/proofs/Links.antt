@@ -9,12 +9,14 @@ use Rattle.dom_arena.specs.Contents.{payload_of, content_of}
 use Rattle.dom_arena.specs.Slots.{free, slot_at, IsUsed, number_of, last, cell}
 use Rattle.dom_arena.specs.Linked.{Linked, forest_of, Stands}
 
+-- a slot gives back what it was given
 pub content_of-payload_of : (c : Content) → content_of (payload_of c) ≡ c
 content_of-payload_of document = refl
 content_of-payload_of (element name attrs) = refl
 content_of-payload_of (text bytes) = refl
 content_of-payload_of (comment bytes) = refl
 
+-- the slot of a node is not free
 pub payload_of-used : (c : Content) → payload_of c ≡ Free → ⊥
 payload_of-used document h = cc
 payload_of-used (element name attrs) h = cc
@@ -40,6 +42,7 @@ forest_of-linked s (node (suc n) c kids later) (suc fuel) parent previous l z h 
     let behind : forest_of fuel s (head later) ≡ later = forest_of-linked s later fuel parent (suc n) l.2 (omega arith) (omega arith) in
     rw (l.0, content_of-payload_of c, below, behind) refl
 
+-- what is no node is not found
 pub find-none : (k : ℕ) (f : Forest) → count k f ≡ 0 → find k f ≡ empty
 find-none k empty h = refl
 find-none k (node n c kids later) h =
@@ -54,10 +57,12 @@ IsCell s k empty = ⊥
 IsCell s k (node n c kids later) =
     (k ≡ n) × ((s k).first_child ≡ head kids) × ((s k).next ≡ head later) × ((s k).payload ≡ payload_of c) × Linked s k 0 kids × ((s k).last_child ≡ last kids)
 
+-- what was found first counts
 IsCell-or_else : (s : ℕ → Slot) (k : ℕ) (f g : Forest) → IsCell s k f → IsCell s k (or_else f g)
 IsCell-or_else s k empty g h = absurd h
 IsCell-or_else s k (node n c kids later) g h = h
 
+-- the slot of a node says what is found under its number
 pub IsCell-find : (s : ℕ → Slot) (k : ℕ) (f : Forest) (parent previous : ℕ) → Linked s parent previous f → 0 < count k f → IsCell s k (find k f)
 IsCell-find s k empty parent previous l h = absurd (omega arith)
 IsCell-find s k (node n c kids later) parent previous l h =
@@ -71,6 +76,7 @@ IsCell-find s k (node n c kids later) parent previous l h =
       ])
     ]
 
+-- what is no node has no parent
 pub parent_in-none : (k parent : ℕ) (f : Forest) → count k f ≡ 0 → parent_in k parent f ≡ None
 parent_in-none k parent empty h = refl
 parent_in-none k parent (node n c kids later) h =
@@ -79,6 +85,7 @@ parent_in-none k parent (node n c kids later) h =
       | inr p ↦ rw (p.2, parent_in-none k n kids (omega arith)) (parent_in-none k parent later (omega arith))
     ]
 
+-- the slot of a node knows its parent
 pub parent_in-linked : (s : ℕ → Slot) (k : ℕ) (f : Forest) (parent previous : ℕ) → Linked s parent previous f → 0 < count k f → parent_in k parent f ≡ Some (s k).parent
 parent_in-linked s k empty parent previous l h = absurd (omega arith)
 parent_in-linked s k (node n c kids later) parent previous l h =
@@ -92,6 +99,7 @@ parent_in-linked s k (node n c kids later) parent previous l h =
       ])
     ]
 
+-- what was found holds no number more often
 pub count-find : (j k : ℕ) (f : Forest) → count j (find k f) ≤ count j f
 count-find j k empty = omega arith
 count-find j k (node n c kids later) =
@@ -107,15 +115,18 @@ count-find j k (node n c kids later) =
     count_or_else empty g a b = omega arith
     count_or_else (node m d ks ls) g a b = omega arith
 
+-- a link to the first sibling
 pub first-head : (f : Forest) → count 0 f ≡ 0 → number_of (head f) ≡ first f
 first-head empty h = refl
 first-head (node zero c kids later) h = absurd (omega arith)
 first-head (node (suc n) c kids later) h = ap (λ b. cond b None (Some (suc n))) (ne_eqb (suc n) 0 (λ e. omega arith))
 
+-- nothing further on
 pub or_else-empty : (f : Forest) → or_else f empty ≡ f
 or_else-empty empty = refl
 or_else-empty (node n c kids later) = refl
 
+-- children and later siblings are parts of what was found
 pub count-parts : (j : ℕ) (f : Forest) → count j (children f) + count j (later_of f) ≤ count j f
 count-parts j empty = omega arith
 count-parts j (node n c kids later) = omega arith
@@ -128,10 +139,12 @@ no_zero k f h =
       | inr p ↦ rw (p.2, or_else-empty) (omega (arith, count-parts 0 (find k f), count-find 0 k f), omega (arith, count-parts 0 (find k f), count-find 0 k f))
     ]
 
-or_none : (o : Option ℕ) → or_some o None ≡ o
+-- no second choice
+pub or_none : (o : Option ℕ) → or_some o None ≡ o
 or_none None = refl
 or_none (Some x) = refl
 
+-- what is no node has no sibling before it
 previous_in-none : (k before : ℕ) (f : Forest) → count k f ≡ 0 → previous_in k before f ≡ None
 previous_in-none k before empty h = refl
 previous_in-none k before (node n c kids later) h =
@@ -140,6 +153,7 @@ previous_in-none k before (node n c kids later) h =
       | inr p ↦ rw (p.2, previous_in-none k 0 kids (omega arith)) (previous_in-none k n later (omega arith))
     ]
 
+-- the slot of a node knows the sibling before it
 previous_in-linked : (s : ℕ → Slot) (k : ℕ) (f : Forest) (parent previous : ℕ) → Linked s parent previous f → 0 < count k f → count k f ≤ 1 → previous_in k previous f ≡ number_of (s k).previous
 previous_in-linked s k empty parent previous l h le = absurd (omega arith)
 previous_in-linked s k (node n c kids later) parent previous l h le =
@@ -162,6 +176,7 @@ used_inside slots k used =
     ]
 
 module _ (slots : List Slot) (f : Forest) (stands : Stands slots f) (k : ℕ) where
+  -- the slot of each node says what is found under its number
   pub cell_at : 0 < count k (rooted f) → IsCell (slot_at slots) k (find k (rooted f))
   cell_at h = IsCell-find (slot_at slots) k (rooted f) 0 0 stands.linked h
 
@@ -177,6 +192,7 @@ module _ (slots : List Slot) (f : Forest) (stands : Stands slots f) (k : ℕ) wh
       used_cell empty c = c
       used_cell (node n c kids later) h' = payload_of-used c (sym h'.3 ∙ h)
 
+  -- a slot that is not free is that of a node
   pub stands_used : IsUsed slots k → 0 < count k (rooted f)
   stands_used h =
       elim (cases_eq (count k (rooted f)) 0) [
@@ -184,11 +200,13 @@ module _ (slots : List Slot) (f : Forest) (stands : Stands slots f) (k : ℕ) wh
         | inr z ↦ omega arith
       ]
 
+  -- under the number of a free slot nothing is found
   pub nothing_found : (slot_at slots k).payload ≡ Free → find k (rooted f) ≡ empty
   nothing_found h = find-none k (rooted f) (stands_none h)
 
   -- the links of each slot, also of a free one, are what the tree says of its number
 
+  -- the first child
   pub first_child_found : number_of (slot_at slots k).first_child ≡ first (children (find k (rooted f)))
   first_child_found =
       elim (cases_eq (count k (rooted f)) 0) [
@@ -200,6 +218,7 @@ module _ (slots : List Slot) (f : Forest) (stands : Stands slots f) (k : ℕ) wh
       from_cell empty c z = absurd c
       from_cell (node n c kids later) h' z = rw (h'.1) (first-head kids z)
 
+  -- the next sibling
   pub next_found : number_of (slot_at slots k).next ≡ first (later_of (find k (rooted f)))
   next_found =
       elim (cases_eq (count k (rooted f)) 0) [
@@ -211,6 +230,7 @@ module _ (slots : List Slot) (f : Forest) (stands : Stands slots f) (k : ℕ) wh
       from_cell empty c z = absurd c
       from_cell (node n c kids later) h' z = rw (h'.2) (first-head later z)
 
+  -- the previous sibling
   pub previous_found : number_of (slot_at slots k).previous ≡ previous_in k 0 f
   previous_found =
       elim (cases_eq (count k f) 0) [
@@ -221,6 +241,7 @@ module _ (slots : List Slot) (f : Forest) (stands : Stands slots f) (k : ℕ) wh
         ]
       ]
 
+  -- what the node is
   pub content_found : IsUsed slots k → Some (content_of (slot_at slots k).payload) ≡ content (find k (rooted f))
   content_found h = from_cell (find k (rooted f)) (cell_at (stands_used h))
     where
@@ -228,6 +249,7 @@ module _ (slots : List Slot) (f : Forest) (stands : Stands slots f) (k : ℕ) wh
       from_cell empty c = absurd c
       from_cell (node n c kids later) h' = ap Some (ap content_of h'.3 ∙ content_of-payload_of c)
 
+  -- the parent of a node below the document
   pub parent_found : IsUsed slots k → (k ≡ 0 → ⊥) → parent_in k 0 f ≡ Some (slot_at slots k).parent
   parent_found h ne =
       elim (same_cases k 0) [
@@ -235,8 +257,10 @@ module _ (slots : List Slot) (f : Forest) (stands : Stands slots f) (k : ℕ) wh
         | inr p ↦ let inside : 0 < count k f = omega (arith, stands_used h) in parent_in-linked (slot_at slots) k f 0 0 stands.linked.1 inside
       ]
 
+  -- no parent where there is no node
   pub parent_not_found : (slot_at slots k).payload ≡ Free → parent_in k 0 f ≡ None
   parent_not_found h = parent_in-none k 0 f (omega (arith, stands_none h))
 
+-- the document has no parent
 pub root_has_none : (slots : List Slot) (f : Forest) → Stands slots f → parent_in 0 0 f ≡ None
 root_has_none slots f stands = parent_in-none 0 0 f (omega (arith, stands.tree.once 0))

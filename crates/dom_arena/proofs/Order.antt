@@ -6,7 +6,7 @@ use Rattle.page_tree.specs.Forest.{Content, document, Forest, empty, node, roote
 use Rattle.dom_arena.specs.declared.table.Slot.{Slot}
 use Rattle.dom_arena.specs.Slots.{slot_at, IsUsed, number_of}
 use Rattle.dom_arena.specs.Linked.{Linked, Stands}
-use Rattle.dom_arena.proofs.Links.{same_cases, stands_used, first_child_found, first-head}
+use Rattle.dom_arena.proofs.Links.{same_cases, find-none, stands_used, first_child_found, first-head}
 use Rattle.dom_arena.proofs.Siblings.{same-eq}
 use Rattle.dom_arena.proofs.Family.{counted_used}
 
@@ -17,19 +17,24 @@ beyond k (node n c kids later) rest =
     cond (eqb k n) (or_some (first later) rest)
     (cond (eqb (count k kids) 0) (beyond k later rest) (beyond k kids (or_some (first later) rest)))
 
+-- beyond the first node
 beyond-same : (k n : ℕ) (c : Content) (kids later : Forest) (rest : Option ℕ) → k ≡ n → beyond k (node n c kids later) rest ≡ or_some (first later) rest
 beyond-same k n c kids later rest e = rw (eq-eqb k n e) refl
 
+-- beyond a node below the first one
 beyond-kids : (k n : ℕ) (c : Content) (kids later : Forest) (rest : Option ℕ) → (k ≡ n → ⊥) → 0 < count k kids → beyond k (node n c kids later) rest ≡ beyond k kids (or_some (first later) rest)
 beyond-kids k n c kids later rest ne h = rw (ne_eqb k n ne, ne_eqb (count k kids) 0 (λ e. omega arith)) refl
 
+-- beyond a node behind the first one
 beyond-later : (k n : ℕ) (c : Content) (kids later : Forest) (rest : Option ℕ) → (k ≡ n → ⊥) → count k kids ≡ 0 → beyond k (node n c kids later) rest ≡ beyond k later rest
 beyond-later k n c kids later rest ne z = rw (ne_eqb k n ne, eq-eqb (count k kids) 0 z) refl
 
+-- the first number of a forest before others
 first_in-numbers : (f : Forest) (xs : List ℕ) → first_in (numbers f ++ xs) ≡ or_some (first f) (first_in xs)
 first_in-numbers empty xs = refl
 first_in-numbers (node n c kids later) xs = refl
 
+-- a node that is not in a forest is looked for behind it
 behind-skip : (k : ℕ) (f : Forest) (xs : List ℕ) → count k f ≡ 0 → behind k (numbers f ++ xs) ≡ behind k xs
 behind-skip k empty xs z = refl
 behind-skip k (node n c kids later) xs z =
@@ -38,6 +43,7 @@ behind-skip k (node n c kids later) xs z =
       | inr q ↦ rw (q.2, append_assoc (numbers kids) (numbers later) xs) (behind-skip k kids (numbers later ++ xs) (omega arith) ∙ behind-skip k later xs (omega arith))
     ]
 
+-- a node that was found is not looked for further on
 find-counted : (k : ℕ) (f g : Forest) → 0 < count k f → or_else (find k f) g ≡ find k f
 find-counted k empty g h = absurd (omega arith)
 find-counted k (node n c kids later) g h =
@@ -53,9 +59,6 @@ find-counted k (node n c kids later) g h =
     either empty y e = e
     either (node m d ks ls) y e = refl
 
-find-uncounted : (k : ℕ) (f : Forest) → count k f ≡ 0 → find k f ≡ empty
-find-uncounted k f z = Rattle.dom_arena.proofs.Links.find-none k f z
-
 -- the number behind a node is its first child's, or else the one beyond it
 behind-numbers : (k : ℕ) (f : Forest) (xs : List ℕ) → 0 < count k f → behind k (numbers f ++ xs) ≡ or_some (first (children (find k f))) (beyond k f (first_in xs))
 behind-numbers k empty xs h = absurd (omega arith)
@@ -64,7 +67,7 @@ behind-numbers k (node n c kids later) xs h =
       | inl q ↦ rw q.2 (ap first_in (append_assoc (numbers kids) (numbers later) xs) ∙ first_in-numbers kids (numbers later ++ xs) ∙ ap (or_some (first kids)) (first_in-numbers later xs))
       | inr q ↦ rw (q.2, append_assoc (numbers kids) (numbers later) xs) (elim (cases_eq (count k kids) 0) [
         | inl z ↦
-            rw (eq-eqb (count k kids) 0 z, find-uncounted k kids z)
+            rw (eq-eqb (count k kids) 0 z, find-none k kids z)
             (behind-skip k kids (numbers later ++ xs) z ∙ behind-numbers k later xs (omega arith))
         | inr z ↦
             rw (ne_eqb (count k kids) 0 z, find-counted k kids (find k later) (omega arith))
@@ -125,15 +128,19 @@ beyond-up s k (node n c kids later) p b rest l z once h end =
     above_kids j h' = beyond-kids j n c kids later rest (λ e. omega (arith, same-eq j n e, once j)) h'
 
 module _ (slots : List Slot) (f : Forest) (stands : Stands slots f) where
+  -- nothing is beyond the document
   none_beyond : beyond 0 (rooted f) None ≡ None
   none_beyond = beyond-same 0 0 document f empty None refl
 
+  -- beyond a node below the document
   beyond_root : (k : ℕ) → 0 < count k f → beyond k (rooted f) None ≡ beyond k f None
   beyond_root k h = beyond-kids k 0 document f empty None (λ e. omega (arith, stands.tree.once k, same-eq k 0 e)) h
 
+  -- beyond a node with a next sibling is that sibling, as the slots say
   pub next_beyond : (k : ℕ) → IsUsed slots k → ((slot_at slots k).next ≡ 0 → ⊥) → beyond k (rooted f) None ≡ Some (slot_at slots k).next
   next_beyond k used ne = beyond-next (slot_at slots) k (rooted f) 0 0 None stands.linked (stands_used slots f stands k used) ne
 
+  -- beyond a node with none is what is beyond its parent, as the slots say
   pub up_beyond : (k : ℕ) → IsUsed slots k → (k ≡ 0 → ⊥) → (slot_at slots k).next ≡ 0 → IsUsed slots (slot_at slots k).parent × (beyond k (rooted f) None ≡ beyond (slot_at slots k).parent (rooted f) None)
   up_beyond k used nz end =
       let inside : 0 < count k f = below k nz (stands_used slots f stands k used) in
@@ -148,22 +155,27 @@ module _ (slots : List Slot) (f : Forest) (stands : Stands slots f) where
       below : (j : ℕ) → (j ≡ 0 → ⊥) → 0 < count j (rooted f) → 0 < count j f
       below j ne h = elim (same_cases j 0) [ inl q ↦ absurd (ne q.0) | inr q ↦ omega arith ]
 
+  -- behind a node is its first child, or else what is beyond it
   behind_node : (k : ℕ) → IsUsed slots k → behind k (numbers (rooted f)) ≡ or_some (number_of (slot_at slots k).first_child) (beyond k (rooted f) None)
   behind_node k used =
       ap (behind k) (sym (append-nil (numbers (rooted f))))
       ∙ behind-numbers k (rooted f) [] (stands_used slots f stands k used)
       ∙ ap (λ (o : Option ℕ). or_some o (beyond k (rooted f) None)) (sym (first_child_found slots f stands k))
 
+  -- behind a node with children
   pub behind_child : (k : ℕ) → IsUsed slots k → ((slot_at slots k).first_child ≡ 0 → ⊥) → behind k (numbers (rooted f)) ≡ Some (slot_at slots k).first_child
   behind_child k used ne =
       behind_node k used ∙ ap (λ b. or_some (cond b None (Some (slot_at slots k).first_child)) (beyond k (rooted f) None)) (ne_eqb (slot_at slots k).first_child 0 ne)
 
+  -- behind a node with none
   pub behind_leaf : (k : ℕ) → IsUsed slots k → (slot_at slots k).first_child ≡ 0 → behind k (numbers (rooted f)) ≡ beyond k (rooted f) None
   behind_leaf k used z =
       behind_node k used ∙ ap (λ b. or_some (cond b None (Some (slot_at slots k).first_child)) (beyond k (rooted f) None)) (eq-eqb (slot_at slots k).first_child 0 z)
 
+  -- the way up ends at the document
   pub behind_end : (k : ℕ) → k ≡ 0 → beyond k (rooted f) None ≡ None
   behind_end k z = ap (λ (j : ℕ). beyond j (rooted f) None) z ∙ none_beyond
 
+-- nothing is behind what is no node
 pub behind-none : (f : Forest) (k : ℕ) → count k (rooted f) ≡ 0 → behind k (numbers (rooted f)) ≡ None
 behind-none f k z = ap (behind k) (sym (append-nil (numbers (rooted f)))) ∙ behind-skip k (rooted f) [] z

@@ -5,15 +5,18 @@ use Rattle.page_tree.specs.Edits.{joined, insert_at, with_children}
 use Rattle.page_tree.specs.Trees.{AreOrdinary}
 use Rattle.dom_arena.proofs.Links.{same_cases, or_else-empty}
 
+-- names are kept in joined forests
 AreOrdinary-joined : (f g : Forest) → AreOrdinary f → AreOrdinary g → AreOrdinary (joined f g)
 AreOrdinary-joined empty g a b = b
 AreOrdinary-joined (node n c kids later) g a b = (a.0, a.1, AreOrdinary-joined later g a.2 b)
 
+-- names are kept after an insertion
 pub AreOrdinary-insert : (i : ℕ) (new f : Forest) → AreOrdinary new → AreOrdinary f → AreOrdinary (insert_at i new f)
 AreOrdinary-insert i new empty a b = a
 AreOrdinary-insert zero new (node n c kids later) a b = AreOrdinary-joined new (node n c kids later) a b
 AreOrdinary-insert (suc i) new (node n c kids later) a b = (b.0, b.1, AreOrdinary-insert i new later a b.2)
 
+-- names are kept with new children
 AreOrdinary-with_children : (p : ℕ) (g f : Forest) → AreOrdinary g → AreOrdinary f → AreOrdinary (with_children p g f)
 AreOrdinary-with_children p g empty a b = tt
 AreOrdinary-with_children p g (node n c kids later) a b =
@@ -30,10 +33,12 @@ ordinary_new p g f a b =
       | inr q ↦ rw q.2 (AreOrdinary-with_children p g f a b)
     ]
 
+-- names are kept in what was found first
 or_ordinary : (f g : Forest) → AreOrdinary f → AreOrdinary g → AreOrdinary (or_else f g)
 or_ordinary empty g a b = b
 or_ordinary (node n c kids later) g a b = a
 
+-- names are kept in what was found
 pub AreOrdinary-find : (k : ℕ) (f : Forest) → AreOrdinary f → AreOrdinary (find k f)
 AreOrdinary-find k empty h = tt
 AreOrdinary-find k (node n c kids later) h =
@@ -42,6 +47,7 @@ AreOrdinary-find k (node n c kids later) h =
       | inr q ↦ rw q.2 (or_ordinary (find k kids) (find k later) (AreOrdinary-find k kids h.1) (AreOrdinary-find k later h.2))
     ]
 
+-- names are kept in children
 AreOrdinary-children : (f : Forest) → AreOrdinary f → AreOrdinary (children f)
 AreOrdinary-children empty h = tt
 AreOrdinary-children (node n c kids later) h = h.1

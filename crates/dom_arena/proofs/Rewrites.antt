@@ -20,6 +20,7 @@ use Rattle.dom_arena.proofs.Attributes.{AreAttributes-with_attr, AreAttributes-w
 -- ---- in the forest only contents change
 
 module _ (k : ℕ) (new : Content) where
+  -- numbers stay
   head-with_content : (f : Forest) → head (with_content k new f) ≡ head f
   head-with_content empty = refl
   head-with_content (node n c kids later) = refl
@@ -31,6 +32,7 @@ module _ (k : ℕ) (new : Content) where
   cell-with_content : (parent : ℕ) (kids later : Forest) (previous : ℕ) (c : Content) → cell parent (with_content k new kids) (head (with_content k new later)) previous c ≡ cell parent kids (head later) previous c
   cell-with_content parent kids later previous c = rw (head-with_content kids, head-with_content later, last_behind-with_content 0 kids) refl
 
+  -- counts, sizes and heights stay
   count-with_content : (j : ℕ) (f : Forest) → count j (with_content k new f) ≡ count j f
   count-with_content j empty = refl
   count-with_content j (node n c kids later) = rw (count-with_content j kids, count-with_content j later) refl
@@ -43,12 +45,14 @@ module _ (k : ℕ) (new : Content) where
   height-with_content empty = refl
   height-with_content (node n c kids later) = rw (height-with_content kids, height-with_content later) refl
 
+  -- what has no children gets none
   MayHave-with_content : (c : Content) (kids : Forest) → MayHave c kids → MayHave c (with_content k new kids)
   MayHave-with_content document kids h = tt
   MayHave-with_content (element name attrs) kids h = tt
   MayHave-with_content (text bytes) kids h = rw h refl
   MayHave-with_content (comment bytes) kids h = rw h refl
 
+  -- only elements have children, where the new content is one
   IsGrown-with_content : (f : Forest) → ((kids : Forest) → MayHave new kids) → IsGrown f → IsGrown (with_content k new f)
   IsGrown-with_content empty may h = tt
   IsGrown-with_content (node n c kids later) may h =
@@ -57,6 +61,7 @@ module _ (k : ℕ) (new : Content) where
         | inr q ↦ rw q.2 (MayHave-with_content c kids h.0, IsGrown-with_content kids may h.1, IsGrown-with_content later may h.2)
       ]
 
+  -- names are kept, where the new content keeps them
   AreOrdinary-with_content : (f : Forest) → IsOrdinary new → AreOrdinary f → AreOrdinary (with_content k new f)
   AreOrdinary-with_content empty ordinary h = tt
   AreOrdinary-with_content (node n c kids later) ordinary h =
@@ -89,6 +94,7 @@ pub record HoldsElement (slots : List Slot) (k : ℕ) (c : Content) : Type 0 whe
   pub ordinary : IsOrdinary (element (name_of c) (attrs_of c))
 
 module _ (slots : List Slot) (f : Forest) (stands : Stands slots f) (k : ℕ) (used : IsUsed slots k) (nz : k ≡ 0 → ⊥) (is : is_element (slot_at slots k).payload ≡ true) where
+  -- the slot of an element holds its name and its attributes, which are kept well
   pub holds_element : HoldsElement slots k (content_at k (record { nodes = f; next = length slots }))
   holds_element = of_found (find k (rooted f)) (found_node slots f stands k used) found_ordinary
     where
@@ -114,12 +120,14 @@ module _ (slots : List Slot) (f : Forest) (stands : Stands slots f) (k : ℕ) (u
   abbrev new_slots : List Slot
   new_slots = with_payload k (payload_of new) slots
 
+  -- one slot is written
   at_k : slot_at new_slots k ≡ record (slot_at slots k) { payload = payload_of new }
   at_k = slot_at-set_same slots k _ (used_inside slots k used)
 
   kept : (j : ℕ) → (j ≡ k → ⊥) → slot_at new_slots j ≡ slot_at slots j
   kept j ne = slot_at-set_other slots k j _ ne
 
+  -- the slots are linked as before
   root_kept : Linked (slot_at new_slots) 0 0 (rooted (with_content k new f))
   root_kept =
       elim (same_cases k 0) [
@@ -133,6 +141,7 @@ module _ (slots : List Slot) (f : Forest) (stands : Stands slots f) (k : ℕ) (u
   length_new : length new_slots ≡ length slots
   length_new = length-set slots k _
 
+  -- so they stand for the tree with the new content
   pub Stands-rewritten : Stands new_slots (with_content k new f)
   Stands-rewritten = record {
     linked = root_kept;
@@ -164,7 +173,7 @@ rewritten_arena slots nodes k name attrs made arena used nz ordinary e =
       same_tree,
     )
 
--- an attribute put and one taken, from what the table says of its write
+-- an attribute set and one dropped, from what the table says of its write
 module _ (slots : List Slot) (nodes k : ℕ) (arena : IsArena slots nodes) (used : IsUsed slots k) (nz : k ≡ 0 → ⊥) (is : is_element (slot_at slots k).payload ≡ true) where
   abbrev here : Content
   here = content_at k (tree_of slots)
@@ -172,21 +181,24 @@ module _ (slots : List Slot) (nodes k : ℕ) (arena : IsArena slots nodes) (used
   held : HoldsElement slots k here
   held = holds_element slots (tree_of slots).nodes arena.stands k used nz is
 
+  -- the attributes that a slot holds are kept well
   pub attrs_kept : AreAttributes (attrs_in (slot_at slots k).payload)
   attrs_kept = subst (λ (p : Payload). AreAttributes (attrs_in p)) (sym held.payload) held.ordinary.1
 
-  pub put_arena : (name value : List ℕ) (made : List Slot) → IsLowerCase name
+  -- an attribute set
+  pub set_arena : (name value : List ℕ) (made : List Slot) → IsLowerCase name
       → made ≡ with_payload k (with_attrs (with_attr name value (attrs_in (slot_at slots k).payload)) (slot_at slots k).payload) slots
       → IsArena made nodes × (tree_of made ≡ with_attr_set k name value (tree_of slots))
-  put_arena name value made low e =
+  set_arena name value made low e =
       rewritten_arena slots nodes k (name_of here) (with_attr name value (attrs_of here)) made arena used nz
       (held.ordinary.0, AreAttributes-with_attr name value (attrs_of here) low held.ordinary.1)
       (e ∙ ap (λ (p : Payload). with_payload k (with_attrs (with_attr name value (attrs_in p)) p) slots) held.payload)
 
-  pub take_arena : (name : List ℕ) (made : List Slot)
+  -- an attribute dropped
+  pub drop_arena : (name : List ℕ) (made : List Slot)
       → made ≡ with_payload k (with_attrs (without_attr name (attrs_in (slot_at slots k).payload)) (slot_at slots k).payload) slots
       → IsArena made nodes × (tree_of made ≡ with_attr_dropped k name (tree_of slots))
-  take_arena name made e =
+  drop_arena name made e =
       rewritten_arena slots nodes k (name_of here) (without_attr name (attrs_of here)) made arena used nz
       (held.ordinary.0, AreAttributes-without_attr name (attrs_of here) held.ordinary.1)
       (e ∙ ap (λ (p : Payload). with_payload k (with_attrs (without_attr name (attrs_in p)) p) slots) held.payload)

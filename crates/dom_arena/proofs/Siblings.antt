@@ -7,9 +7,11 @@ use Rattle.dom_arena.specs.Slots.{cell}
 use Rattle.dom_arena.specs.Linked.{Linked, from_place, before_place}
 use Rattle.dom_arena.proofs.Links.{same_cases}
 
+-- a number is the same as itself
 pub same-same : (n : ℕ) → same n n ≡ 1
 same-same n = elim (same_cases n n) [ inl p ↦ p.1 | inr p ↦ absurd (p.0 refl) ]
 
+-- equal numbers are the same
 pub same-eq : (k n : ℕ) → k ≡ n → same k n ≡ 1
 same-eq k n e = elim (same_cases k n) [ inl p ↦ p.1 | inr p ↦ absurd (p.0 e) ]
 
@@ -22,6 +24,7 @@ Linked-frame s s' (node n c kids later) parent previous same_slots l = (
   Linked-frame s s' later parent n (λ k h. same_slots k (omega arith)) l.2,
 )
 
+-- the number before a place is a sibling, or what stands before them all
 pub before_place-in : (b i : ℕ) (f : Forest) → (before_place b i f ≡ b) ⊎ (0 < count (before_place b i f) f)
 before_place-in b zero f = inl refl
 before_place-in b (suc i) empty = inl refl
@@ -31,6 +34,7 @@ before_place-in b (suc i) (node n c kids later) =
       | inr h ↦ inr (omega arith)
     ]
 
+-- the number behind a place is a sibling, or none
 pub from_place-in : (i : ℕ) (f : Forest) → (head (from_place i f) ≡ 0) ⊎ (0 < count (head (from_place i f)) f)
 from_place-in zero empty = inl refl
 from_place-in zero (node n c kids later) = inr (omega (arith, same-same n))
@@ -41,20 +45,18 @@ from_place-in (suc i) (node n c kids later) =
       | inr h ↦ inr (omega arith)
     ]
 
-pub head-insert : (i : ℕ) (new f : Forest) → 0 < i → 0 < length (tops f) → head (insert_at i new f) ≡ head f
-head-insert i new empty h l = absurd (omega arith)
-head-insert zero new (node n c kids later) h l = absurd (omega arith)
-head-insert (suc i) new (node n c kids later) h l = refl
-
+-- a node put first is first
 pub head-insert_first : (n : ℕ) (c : Content) (below f : Forest) → head (insert_at zero (node n c below empty) f) ≡ n
 head-insert_first n c below empty = refl
 head-insert_first n c below (node m d kids later) = refl
 
+-- numbers of forests that share none differ
 apart : (k j : ℕ) (f g : Forest) → 0 < count k f → 0 < count j g → count k f + count k g ≤ 1 → k ≡ j → ⊥
 apart k j f g a b c e = let b' : 0 < count k g = rw e b in omega arith
 
 -- a node with all below it goes in between siblings
 module _ (s s' : ℕ → Slot) (n p : ℕ) (c : Content) (below : Forest) (held : Linked s' n 0 below) where
+  -- along the siblings to the place
   pub Linked-insert : (i b : ℕ) (kids : Forest) → Linked s p b kids → ((k : ℕ) → count k kids ≤ 1) → count 0 kids ≡ 0 → count b kids ≡ 0 → i ≤ length (tops kids)
       → s' n ≡ cell p below (head (from_place i kids)) (before_place b i kids) c
       → ((k : ℕ) → 0 < count k kids → (k ≡ before_place b i kids → ⊥) → (k ≡ head (from_place i kids) → ⊥) → s' k ≡ s k)

@@ -9,6 +9,7 @@ use Rattle.dom_arena.proofs.Grafts.{slot_at-set_same, slot_at-set_other, slot_at
 
 module _ (slots : List Slot) (v : Slot) (p b a : ℕ) (p_in : p < length slots) (b_in : (b ≡ 0 → ⊥) → b < length slots) (a_in : (a ≡ 0 → ⊥) → a < length slots)
     (b_not_p : (b ≡ 0 → ⊥) → b ≡ p → ⊥) (a_not_p : (a ≡ 0 → ⊥) → a ≡ p → ⊥) (a_not_b : (a ≡ 0 → ⊥) → a ≡ b → ⊥) where
+  -- the slots after the push, after the first link, and after both
   abbrev start : List Slot
   start = slots ++ v ∷ []
 
@@ -18,9 +19,11 @@ module _ (slots : List Slot) (v : Slot) (p b a : ℕ) (p_in : p < length slots) 
   abbrev done : List Slot
   done = with_back_link (length slots) p a mid
 
+  -- how many there are
   length-start : length start ≡ length slots + 1
   length-start = length_push slots v
 
+  -- which slot a link is written to
   mid_first : b ≡ 0 → mid ≡ set start p (record (slot_at start p) { first_child = length slots })
   mid_first z = cond-true (eqb b 0) _ _ (eq-eqb b 0 z)
 
@@ -33,6 +36,7 @@ module _ (slots : List Slot) (v : Slot) (p b a : ℕ) (p_in : p < length slots) 
   done_previous : (a ≡ 0 → ⊥) → done ≡ set mid a (record (slot_at mid a) { previous = length slots })
   done_previous ne = cond-false (eqb a 0) _ _ (ne_eqb a 0 ne)
 
+  -- how many there are then
   length-mid : length mid ≡ length slots + 1
   length-mid =
       elim (cases_eq b 0) [
@@ -47,6 +51,7 @@ module _ (slots : List Slot) (v : Slot) (p b a : ℕ) (p_in : p < length slots) 
         | inr ne ↦ ap length (done_previous ne) ∙ length-set mid a _ ∙ length-mid
       ]
 
+  -- the other slots stay
   mid_kept : (k : ℕ) → (b ≡ 0 → k ≡ p → ⊥) → ((b ≡ 0 → ⊥) → k ≡ b → ⊥) → slot_at mid k ≡ slot_at start k
   mid_kept k np nb =
       elim (cases_eq b 0) [
@@ -61,15 +66,18 @@ module _ (slots : List Slot) (v : Slot) (p b a : ℕ) (p_in : p < length slots) 
         | inr ne ↦ ap (λ (l : List Slot). slot_at l k) (done_previous ne) ∙ slot_at-set_other mid a k _ (na ne)
       ]
 
+  -- beside the new node, its parent and its neighbours each slot stays
   pub kept : (k : ℕ) → (k ≡ length slots → ⊥) → (k ≡ p → ⊥) → ((b ≡ 0 → ⊥) → k ≡ b → ⊥) → ((a ≡ 0 → ⊥) → k ≡ a → ⊥) → slot_at done k ≡ slot_at slots k
   kept k nn np nb na = done_kept k (λ _. np) na ∙ mid_kept k (λ _. np) nb ∙ slot_at-push slots v k nn
 
+  -- the new node
   pub at_new : slot_at done (length slots) ≡ v
   at_new =
       done_kept (length slots) (λ z e. omega (arith, p_in)) (λ ne e. omega (arith, a_in ne))
       ∙ mid_kept (length slots) (λ z e. omega (arith, p_in)) (λ ne e. omega (arith, b_in ne))
       ∙ slot_at-pushed slots v
 
+  -- the parent
   parent_started : slot_at start p ≡ slot_at slots p
   parent_started = slot_at-push slots v p (λ e. omega (arith, p_in))
 
@@ -102,6 +110,7 @@ module _ (slots : List Slot) (v : Slot) (p b a : ℕ) (p_in : p < length slots) 
             ∙ ap (λ (k : ℕ). record (slot_at slots p) { first_child = first; last_child = k }) (sym (old_last ne))
       ]
 
+  -- the sibling before
   pub at_before : (b ≡ 0 → ⊥) → slot_at done b ≡ record (slot_at slots b) { next = length slots }
   at_before ne =
       done_kept b (λ _. b_not_p ne) (λ na e. a_not_b na (sym e))
@@ -109,6 +118,7 @@ module _ (slots : List Slot) (v : Slot) (p b a : ℕ) (p_in : p < length slots) 
       ∙ slot_at-set_same start b _ (omega (arith, length-start, b_in ne))
       ∙ ap (λ (x : Slot). record x { next = length slots }) (slot_at-push slots v b (λ e. omega (arith, b_in ne)))
 
+  -- the sibling behind
   pub at_after : (a ≡ 0 → ⊥) → slot_at done a ≡ record (slot_at slots a) { previous = length slots }
   at_after ne =
       ap (λ (l : List Slot). slot_at l a) (done_previous ne)
@@ -127,6 +137,7 @@ payload-set slots i k v same =
       ]
     ]
 
+-- a link keeps what each slot holds
 payload-with_link : (n p b k : ℕ) (slots : List Slot) → (slot_at (with_link n p b slots) k).payload ≡ (slot_at slots k).payload
 payload-with_link n p b k slots =
     elim (cases_eq b 0) [
@@ -134,8 +145,10 @@ payload-with_link n p b k slots =
       | inr ne ↦ rw (ne_eqb b 0 ne) (payload-set slots b k _ refl)
     ]
 
+-- a pushed slot keeps which numbers are used
 pub used-push : (slots : List Slot) (v : Slot) (k : ℕ) → IsUsed slots k → IsUsed (slots ++ v ∷ []) k
 used-push slots v k used h = used (sym (ap (λ (x : Slot). x.payload) (slot_at-push slots v k (λ e. omega (arith, used_inside slots k used)))) ∙ h)
 
+-- a link keeps which numbers are used
 pub used-with_link : (n p b k : ℕ) (slots : List Slot) → IsUsed slots k → IsUsed (with_link n p b slots) k
 used-with_link n p b k slots used h = used (sym (payload-with_link n p b k slots) ∙ h)

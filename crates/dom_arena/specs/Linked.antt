@@ -1,6 +1,6 @@
 -- How the slots of the arena stand for a tree.
 use Rattle.std.specs.Prelude.{◌≡◌, ℕ, zero, suc, ◌≤◌, List, length}
-use Rattle.page_tree.specs.Forest.{Forest, empty, node, Tree, rooted, count, size, head}
+use Rattle.page_tree.specs.Forest.{Forest, empty, node, Tree, rooted, count, size, head, find, children}
 use Rattle.page_tree.specs.Trees.{IsTree}
 use Rattle.dom_arena.specs.Contents.{content_of}
 use Rattle.dom_arena.specs.Slots.{free, slot_at, cell}
@@ -34,6 +34,10 @@ pub record Stands (slots : List Slot) (f : Forest) : Type 0 where
 pub record IsArena (slots : List Slot) (nodes : ℕ) : Type 0 where
   pub stands : Stands slots (tree_of slots).nodes
   pub counted : nodes ≡ size (tree_of slots).nodes
+
+-- the children of the node p
+abbrev pub kids_of : ℕ → Tree → Forest
+kids_of p t = children (find p (rooted t.nodes))
 
 -- the siblings from a place on, and the one before that place
 abbrev pub from_place : ℕ → Forest → Forest

@@ -49,7 +49,7 @@ fn find_attr(attrs: &[(Text, Text)], name: &str) -> usize
     place
 }
 
-fn put(attrs: &mut Attrs, name: Text, value: Text) -> Result<(), AllocError>
+fn set_in(attrs: &mut Attrs, name: Text, value: Text) -> Result<(), AllocError>
     requires attrs { AreAttributes attrs.old }
     requires name { IsLowerCase name }
     ensures ok { OnOk result (attrs.new ≡ with_attr name value attrs.old) }
@@ -64,7 +64,7 @@ fn put(attrs: &mut Attrs, name: Text, value: Text) -> Result<(), AllocError>
     }
 }
 
-fn take(attrs: &mut Attrs, name: &str)
+fn drop_from(attrs: &mut Attrs, name: &str)
     requires { AreAttributes attrs.old }
     ensures { attrs.new ≡ without_attr (str_to_ascii_lowercase name.now) attrs.old }
 {
@@ -75,24 +75,24 @@ fn take(attrs: &mut Attrs, name: &str)
 }
 
 // Gives an element's attribute a value; nothing else has one.
-pub(crate) fn put_attr(payload: &mut Payload, name: Text, value: Text) -> Result<(), AllocError>
+pub(crate) fn set_attr(payload: &mut Payload, name: Text, value: Text) -> Result<(), AllocError>
     requires attrs { AreAttributes (attrs_in payload.old) }
     requires name { IsLowerCase name }
     ensures ok { OnOk result (payload.new ≡ with_attrs (with_attr name value (attrs_in payload.old)) payload.old) }
     ensures err { OnErr result (payload.new ≡ payload.old) }
 {
     match payload {
-        Payload::Element { attrs, .. } => put(attrs, name, value),
+        Payload::Element { attrs, .. } => set_in(attrs, name, value),
         _ => Ok(()),
     }
 }
 
 // Takes an element's attribute out; nothing else has one.
-pub(crate) fn take_attr(payload: &mut Payload, name: &str)
+pub(crate) fn drop_attr(payload: &mut Payload, name: &str)
     requires { AreAttributes (attrs_in payload.old) }
     ensures { payload.new ≡ with_attrs (without_attr (str_to_ascii_lowercase name.now) (attrs_in payload.old)) payload.old }
 {
     if let Payload::Element { attrs, .. } = payload {
-        take(attrs, name);
+        drop_from(attrs, name);
     }
 }

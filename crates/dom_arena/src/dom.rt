@@ -205,7 +205,7 @@ impl Dom {
         check_element(&self.table, n)?;
         let name = lower_case(self.alloc, name)?;
         let value = Text::of(self.alloc, value)?;
-        self.table.put_attr(n, name, value)?;
+        self.table.set_attr(n, name, value)?;
         Ok(())
     }
 
@@ -218,7 +218,7 @@ impl Dom {
         ensures err { OnErr result (self.new ≡ self.old) }
     {
         check_element(&self.table, n)?;
-        self.table.take_attr(n, name);
+        self.table.drop_attr(n, name);
         Ok(())
     }
 }

@@ -1,9 +1,9 @@
 //! Places for new nodes, and how a node is linked in at one.
 ghost use Rattle.std.specs.Prelude.{◌≡◌, ℕ, ◌<◌, ◌≤◌, ◌∷◌, [], ◌++◌, ◌^◌, length, true, Some, None, IfSome, IfNone, IfOk, IfErr, OnOk, OnErr};
-ghost use Rattle.page_tree.specs.Forest.{rooted, find, children, tops, head, depth_in, empty};
+ghost use Rattle.page_tree.specs.Forest.{rooted, head, depth_in, empty};
 ghost use Rattle.page_tree.specs.Edits.{children_of};
 ghost use Rattle.dom_arena.specs.Contents.{may_hold, new_content, payload_of};
-ghost use Rattle.dom_arena.specs.Linked.{Stands, tree_of, before_place, from_place};
+ghost use Rattle.dom_arena.specs.Linked.{Stands, tree_of, kids_of, before_place, from_place};
 ghost use Rattle.dom_arena.specs.Refusals.{place_refused, limits_refused};
 ghost use Rattle.dom_arena.specs.Slots.{slot_at, cell, IsUsed, with_link, with_back_link};
 
@@ -47,10 +47,10 @@ fn check_parent(table: &Table, parent: u32) -> Result<(), DomError>
 fn around(table: &Table, parent: u32, place: u32) -> Option<(u32, u32)>
     requires stands { Stands table.now (tree_of table.now).nodes }
     requires used { IsUsed table.now parent }
-    ensures past { IfNone result (length (tops (children (find parent (rooted (tree_of table.now).nodes)))) < place) }
-    ensures within { IfSome result (λ _. place ≤ length (tops (children (find parent (rooted (tree_of table.now).nodes))))) }
-    ensures before { IfSome result (λ beside. beside.0 ≡ before_place 0 place (children (find parent (rooted (tree_of table.now).nodes)))) }
-    ensures after { IfSome result (λ beside. beside.1 ≡ head (from_place place (children (find parent (rooted (tree_of table.now).nodes))))) }
+    ensures past { IfNone result (children_of parent (tree_of table.now) < place) }
+    ensures within { IfSome result (λ _. place ≤ children_of parent (tree_of table.now)) }
+    ensures before { IfSome result (λ beside. beside.0 ≡ before_place 0 place (kids_of parent (tree_of table.now))) }
+    ensures after { IfSome result (λ beside. beside.1 ≡ head (from_place place (kids_of parent (tree_of table.now)))) }
 {
     let mut before = 0;
     let mut after = table.first_child(parent);
@@ -71,9 +71,9 @@ pub(crate) fn find_place(table: &Table, parent: u32, place: u32) -> Result<(u32,
     ensures accepted { OnOk result (place_refused parent place (tree_of table.now) ≡ None) }
     ensures used { OnOk result (IsUsed table.now parent) }
     ensures holds { OnOk result (may_hold (slot_at table.now parent).payload ≡ true) }
-    ensures within { OnOk result (place ≤ length (tops (children (find parent (rooted (tree_of table.now).nodes))))) }
-    ensures before { IfOk result (λ beside. beside.0 ≡ before_place 0 place (children (find parent (rooted (tree_of table.now).nodes)))) }
-    ensures after { IfOk result (λ beside. beside.1 ≡ head (from_place place (children (find parent (rooted (tree_of table.now).nodes))))) }
+    ensures within { OnOk result (place ≤ children_of parent (tree_of table.now)) }
+    ensures before { IfOk result (λ beside. beside.0 ≡ before_place 0 place (kids_of parent (tree_of table.now))) }
+    ensures after { IfOk result (λ beside. beside.1 ≡ head (from_place place (kids_of parent (tree_of table.now)))) }
 {
     check_parent(table, parent)?;
     match around(table, parent, place) {
@@ -89,7 +89,7 @@ pub(crate) fn find_end(table: &Table, parent: u32) -> Result<u32, DomError>
     ensures accepted { OnOk result (place_refused parent (children_of parent (tree_of table.now)) (tree_of table.now) ≡ None) }
     ensures used { OnOk result (IsUsed table.now parent) }
     ensures holds { OnOk result (may_hold (slot_at table.now parent).payload ≡ true) }
-    ensures before { IfOk result (λ last. last ≡ before_place 0 (children_of parent (tree_of table.now)) (children (find parent (rooted (tree_of table.now).nodes)))) }
+    ensures before { IfOk result (λ last. last ≡ before_place 0 (children_of parent (tree_of table.now)) (kids_of parent (tree_of table.now))) }
 {
     check_parent(table, parent)?;
     Ok(table.last_child(parent))

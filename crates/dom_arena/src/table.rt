@@ -7,7 +7,7 @@ ghost use Rattle.dom_arena.specs.Attributes.{attrs_in, with_attrs};
 ghost use Rattle.dom_arena.specs.Slots.{slot_at, IsUsed, with_payload};
 ghost use Rattle.dom_arena.specs.declared.kinds.Payload.TheVariants.{Free};
 
-use crate::attrs::{put_attr, take_attr};
+use crate::attrs::{drop_attr, set_attr};
 use crate::kinds::Payload;
 use listed::Text;
 use std::alloc::{AllocError, Global};
@@ -161,7 +161,7 @@ impl Table {
     }
 
     /// Gives an attribute of the node n a value.
-    pub(crate) fn put_attr(&mut self, n: u32, name: Text, value: Text) -> Result<(), AllocError>
+    pub(crate) fn set_attr(&mut self, n: u32, name: Text, value: Text) -> Result<(), AllocError>
         requires used { IsUsed self.old n }
         requires attrs { AreAttributes (attrs_in (slot_at self.old n).payload) }
         requires name { IsLowerCase name }
@@ -169,16 +169,16 @@ impl Table {
         ensures err { OnErr result (self.new ≡ self.old) }
     {
         let slot = &mut self.slots[n as usize];
-        put_attr(&mut slot.payload, name, value)
+        set_attr(&mut slot.payload, name, value)
     }
 
     /// Takes an attribute of the node n out.
-    pub(crate) fn take_attr(&mut self, n: u32, name: &str)
+    pub(crate) fn drop_attr(&mut self, n: u32, name: &str)
         requires used { IsUsed self.old n }
         requires attrs { AreAttributes (attrs_in (slot_at self.old n).payload) }
         ensures { self.new ≡ with_payload n (with_attrs (without_attr (str_to_ascii_lowercase name.now) (attrs_in (slot_at self.old n).payload)) (slot_at self.old n).payload) self.old }
     {
         let slot = &mut self.slots[n as usize];
-        take_attr(&mut slot.payload, name);
+        drop_attr(&mut slot.payload, name);
     }
 }

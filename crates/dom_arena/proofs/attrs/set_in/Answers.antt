@@ -2,7 +2,7 @@ use Rattle.std.proofs.Common.{◌≡◌, ℕ, ◌≤◌, ◌<◌, List, length, 
 use Rattle.std.specs.Str.{str_to_ascii_lowercase}
 use Rattle.dom_arena.specs.Attributes.{place_of}
 use Rattle.dom_arena.proofs.Attributes.{with_attr-found, with_attr-new}
-use Rattle.dom_arena.proofs.attrs.put.Goals as goal
+use Rattle.dom_arena.proofs.attrs.set_in.Goals as goal
 
 pub returns-then-place-len-clause-ok : goal.returns-then-place-len-clause-ok
 returns-then-place-len-clause-ok c =

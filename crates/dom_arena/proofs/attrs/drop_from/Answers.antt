@@ -3,7 +3,7 @@ use Rattle.std.specs.Prelude.{remove}
 use Rattle.std.specs.Str.{str_to_ascii_lowercase}
 use Rattle.dom_arena.specs.Attributes.{place_of}
 use Rattle.dom_arena.proofs.Attributes.{without_attr-found, without_attr-none}
-use Rattle.dom_arena.proofs.attrs.take.Goals as goal
+use Rattle.dom_arena.proofs.attrs.drop_from.Goals as goal
 
 pub returns-then-place-len : goal.returns-then-place-len
 returns-then-place-len c =
