@@ -5,7 +5,8 @@
 
 It makes its own input in a temporary folder. The pages are tidy: a flat one, whose elements are all siblings, and a
 nested one. The time should grow as the page does, and the peak memory should stay below forty bytes for each byte
-of the page."""
+of the page. A script of changes has every element asked again after each line: its time should grow as the number of its
+lines does, and its peak memory should not."""
 
 import argparse
 import os
@@ -42,6 +43,12 @@ def filters(count):
     return "\n".join(lines) + "\n"
 
 
+def script(lines, nodes):
+    """Classes that come and go, all over the page."""
+    changes = (f"attr {1 + 2 * (i * 7919 % (nodes // 2))} class row c{i % 97}" for i in range(lines))
+    return "\n".join(changes) + "\n"
+
+
 def run(program, folder, words):
     """Seconds, peak memory in bytes, status and length of the output of one run."""
     output = Path(folder, "output")
@@ -76,6 +83,22 @@ def main():
                     f"{peak / size:>10.1f}{output:>12,}" + ("" if status == 0 else f"  status {status}")
                 )
             print(f"{f'{name}, 500,000 for 200,000 nodes':<34}{times[1] / times[0]:>33.2f} times as long")
+        nodes = 20_000
+        Path(folder, "list").write_text(filters(10))
+        page = Path(folder, "page")
+        page.write_text(flat_page(nodes))
+        size = page.stat().st_size
+        times = []
+        for lines in (500, 2_000):
+            Path(folder, "script").write_text(script(lines, nodes))
+            seconds, peak, status, output = run(program, folder, ["apply", "list", "page", "script"])
+            times.append(seconds)
+            failed |= status != 0
+            print(
+                f"{f'{lines:,} lines, 20,000 nodes, 10 filters':<34}{size:>12,}{seconds:>9.2f}{peak / 1e6:>9.0f}"
+                f"{peak / size:>10.1f}{output:>12,}" + ("" if status == 0 else f"  status {status}")
+            )
+        print(f"{'2,000 for 500 lines':<34}{times[1] / times[0]:>33.2f} times as long")
     return 1 if failed else 0
 
 

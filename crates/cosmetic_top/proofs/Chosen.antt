@@ -1,20 +1,19 @@
 -- The rows of hidden elements, node by node in document order.
-use Rattle.std.proofs.Common.{◌≡◌, ◌+◌, ◌<◌, ◌≤◌, ◌&&◌, ◌++◌, ℕ, suc, cond, Bool, true, false, List, [], ◌∷◌, length, map, filter, codes, Option, Some, None, take, get_or, arith, refl, sym, ap, ◌∙◌, append_assoc}
+use Rattle.std.proofs.Common.{◌≡◌, ◌+◌, ◌<◌, ◌&&◌, ◌++◌, ℕ, suc, cond, Bool, true, false, List, [], ◌∷◌, length, map, filter, codes, Option, Some, None, take, get_or, arith, refl, sym, ap, ◌∙◌, append_assoc}
 use Rattle.std.proofs.lemmas.List.{append-nil, take_more, length-take-le}
 use Rattle.std.specs.Prelude.{unwrap_or, option_map}
 use Rattle.std.specs.Str.{bytes_eq}
 use Rattle.std.specs.List.{list_any}
-use Rattle.selector_tree.specs.declared.selector.Step.{Step}
-use Rattle.page_tree.specs.Forest.{Content, document, element, text, comment, Forest, Tree, rooted, find, content, numbers, name_of, attrs_of, value_at}
+use Rattle.page_tree.specs.Forest.{Content, document, element, text, comment, Tree, rooted, find, content, numbers, name_of, attrs_of}
 use Rattle.page_tree.specs.Standings.{all, name}
-use Rattle.page_tree.specs.Facts.{attr, class_list, id, words_in}
+use Rattle.page_tree.specs.Facts.{class_list, id, words_in}
 use Rattle.page_tree.specs.Directions.{is_in}
 use Rattle.page_tree.specs.Trees.{IsTree}
 use Rattle.page_tree.proofs.Members.{filter-alike}
 use Rattle.page_tree.proofs.Elements.{stands_as_element, all-rooted, is_in-all-rooted, attr-rooted, name-rooted, is_element}
 use Rattle.selector_meaning.specs.Texts.{some_fits}
 use Rattle.selector_meaning.specs.Meaning.{selects, never}
-use Rattle.selector_meaning.specs.Hidden.{places_from, with_row, rows_of, hidden}
+use Rattle.selector_meaning.specs.Hidden.{places_from, with_row, rows_of}
 use Rattle.selector_meaning.proofs.Selects.{selects-Class, selects-Id}
 use Rattle.selector_meaning.proofs.Rows.{rows_of-append, places_from-append, places_from-alike}
 use Rattle.dom_arena.specs.declared.kinds.NodeKind.TheVariants as kind
@@ -22,7 +21,7 @@ use Rattle.dom_arena.specs.Contents.{kind_of}
 use Rattle.cosmetic_top.specs.declared.filters.SimpleTest.{SimpleTest}
 use Rattle.cosmetic_top.specs.declared.filters.SimpleTest.TheVariants.{Class, Id}
 use Rattle.cosmetic_top.specs.declared.filters.ListFilter.{ListFilter}
-use Rattle.cosmetic_top.specs.Filters.{selector_of, selectors_of, passes, row_of_content}
+use Rattle.cosmetic_top.specs.Filters.{selector_of, selectors_of, passes_by, row_of_content}
 use Rattle.cosmetic_top.specs.Report.{hidden_rows, rows_of_nodes}
 
 -- the places of items that were made from others
@@ -48,7 +47,7 @@ module _ (t : Tree) (tree : IsTree t) (filters : List ListFilter) where
 
   -- the selector of a test selects the elements whose attributes pass it
   selects-passes : (n : ℕ) (called : List ℕ) (given : List (List ℕ × List ℕ)) → content (find n (rooted t.nodes)) ≡ Some (element called given) → (test : SimpleTest)
-      → selects never t [] (selector_of test) n ≡ passes test given
+      → selects never t [] (selector_of test) n ≡ passes_by given test
   selects-passes n called given h (Class name) =
       selects-Class never t [] name n
       ∙ ap (λ (b : Bool). b && list_any (bytes_eq name) (class_list t n)) (is_in-all-rooted t tree n ∙ ap is_element h)
@@ -62,12 +61,12 @@ module _ (t : Tree) (tree : IsTree t) (filters : List ListFilter) where
   no_row n e = let apart : is_in (all t) n ≡ false = is_in-all-rooted t tree n ∙ e in rw apart refl
 
   row_of_element : (n : ℕ) (called : List ℕ) (given : List (List ℕ × List ℕ)) → content (find n (rooted t.nodes)) ≡ Some (element called given)
-      → rows_of_nodes t filters (n ∷ []) ≡ with_row n (places_from 0 (λ f. passes f.test given) filters) []
+      → rows_of_nodes t filters (n ∷ []) ≡ with_row n (places_from 0 (λ f. passes_by given f.test) filters) []
   row_of_element n called given h =
       let there : is_in (all t) n ≡ true = is_in-all-rooted t tree n ∙ ap is_element h in
       rw there
       (ap (λ ns. with_row n ns []) (places_from-map 0 (λ f. selector_of f.test) (λ selector. selects never t [] selector n) filters
-      ∙ places_from-alike 0 (λ f. selects never t [] (selector_of f.test) n) (λ f. passes f.test given) filters (λ f. selects-passes n called given h f.test)))
+      ∙ places_from-alike 0 (λ f. selects never t [] (selector_of f.test) n) (λ f. passes_by given f.test) filters (λ f. selects-passes n called given h f.test)))
 
   -- the row of a node, by its content
   pub row_of_node : (n : ℕ) (c : Content) → Some c ≡ content (find n (rooted t.nodes)) → rows_of_nodes t filters (n ∷ []) ≡ row_of_content filters n c
@@ -89,7 +88,7 @@ module _ (t : Tree) (tree : IsTree t) (filters : List ListFilter) where
       ∙ ap (λ (r : List (ℕ × List ℕ)). rows ++ r) (sym (rows_of_nodes-cons n rest) ∙ ap (rows_of_nodes t filters) (sym split)) ∙ h
 
 -- an element is what the kind says
-pub row_of_kind : (filters : List ListFilter) (n : ℕ) (c : Content) → kind_of c ≡ kind.Element → with_row n (places_from 0 (λ f. passes f.test (attrs_of c)) filters) [] ≡ row_of_content filters n c
+pub row_of_kind : (filters : List ListFilter) (n : ℕ) (c : Content) → kind_of c ≡ kind.Element → with_row n (places_from 0 (λ f. passes_by (attrs_of c) f.test) filters) [] ≡ row_of_content filters n c
 row_of_kind filters n document h = let no : kind.Document ≡ kind.Element = h in cc
 row_of_kind filters n (element called given) h = refl
 row_of_kind filters n (text bytes) h = let no : kind.Text ≡ kind.Element = h in cc

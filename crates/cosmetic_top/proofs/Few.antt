@@ -1,5 +1,5 @@
--- A list has at most as many filters as bytes.
-use Rattle.std.proofs.Common.{◌≡◌, ◌+◌, ◌<◌, ◌≤◌, ◌==◌, ◌&&◌, ◌^◌, ℕ, suc, cond, Bool, true, false, List, [], ◌∷◌, length, arith}
+-- A list has at most as many lines, and so as many filters, as bytes.
+use Rattle.std.proofs.Common.{◌≡◌, ◌+◌, ◌<◌, ◌≤◌, ◌==◌, ◌&&◌, ◌^◌, ℕ, suc, cond, Bool, true, false, List, [], ◌∷◌, length, arith, refl}
 use Rattle.cos_source.specs.Lines.{is_lf, begins_with_lf, lines_of, onto_first_line, numbered}
 use Rattle.cosmetic_top.specs.declared.filters.ListFilter.{ListFilter}
 use Rattle.cosmetic_top.specs.declared.filters.ListLine.{ListLine}
@@ -15,13 +15,13 @@ by_byte true two n b lines h = omega arith
 by_byte false true n b lines h = omega arith
 by_byte false false n b lines h = onto_first_line-few b n lines h
 
-lines_few : (bytes : List ℕ) → length (lines_of bytes) ≤ length bytes
+pub lines_few : (bytes : List ℕ) → length (lines_of bytes) ≤ length bytes
 lines_few [] = omega arith
 lines_few (b ∷ bytes) = by_byte (is_lf b) ((b == 13) && begins_with_lf bytes) (length bytes) b (lines_of bytes) (lines_few bytes)
 
-numbered_few : (n : ℕ) (lines : List (List ℕ)) → length (numbered n lines) ≤ length lines
-numbered_few n [] = omega arith
-numbered_few n (line ∷ lines) = omega (arith, numbered_few (n + 1) lines)
+pub numbered_many : (n : ℕ) (lines : List (List ℕ)) → length (numbered n lines) ≡ length lines
+numbered_many n [] = refl
+numbered_many n (line ∷ lines) = omega (arith, numbered_many (n + 1) lines)
 
 with_filter-few : (number n : ℕ) (line : ListLine) (filters : List ListFilter) → length filters ≤ n → length (with_filter number line filters) ≤ suc n
 with_filter-few number n (Filter test) filters h = omega arith
@@ -34,4 +34,4 @@ filters_few (line ∷ lines) = with_filter-few line.0 (length lines) (line_of li
 
 pub few_filters : (bytes : List ℕ) → length bytes < 2 ^ 32 → length (filters_in (numbered 1 (lines_of bytes))) < 2 ^ 32
 few_filters bytes h =
-    omega (arith, filters_few (numbered 1 (lines_of bytes)), numbered_few 1 (lines_of bytes), lines_few bytes)
+    omega (arith, filters_few (numbered 1 (lines_of bytes)), numbered_many 1 (lines_of bytes), lines_few bytes)

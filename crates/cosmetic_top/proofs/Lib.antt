@@ -3,4 +3,6 @@ mod WordLaws
 mod Walk
 mod Chosen
 mod Few
+mod Parts
 mod Reports
+mod Steps

@@ -1,6 +1,6 @@
 -- A walk over numbers that stand once, each from the one before it.
-use Rattle.std.proofs.Common.{◌≡◌, ◌+◌, ◌<◌, ◌≤◌, ◌++◌, ℕ, suc, cond, eqb, Bool, true, false, List, [], ◌∷◌, length, Option, Some, None, arith, refl, sym, ap, ◌∙◌, inl, inr}
-use Rattle.page_tree.specs.Forest.{Forest, empty, node, rooted, same, count, numbers, first_in, behind}
+use Rattle.std.proofs.Common.{◌≡◌, ◌+◌, ◌<◌, ◌≤◌, ◌++◌, ℕ, cond, eqb, List, [], ◌∷◌, length, Option, Some, None, arith, refl, sym, ap, ◌∙◌, inl, inr}
+use Rattle.page_tree.specs.Forest.{Forest, empty, node, same, count, numbers, first_in, behind}
 use Rattle.page_tree.proofs.Finding.{same_cases}
 
 -- how often a number stands in a list

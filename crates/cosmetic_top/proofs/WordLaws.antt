@@ -1,5 +1,5 @@
 -- The first word of a text, and those behind it.
-use Rattle.std.proofs.Common.{◌≡◌, ◌⊎◌, ◌+◌, ◌-◌, ◌<◌, ◌≤◌, ◌++◌, ℕ, suc, Bool, true, false, not, cond, List, [], ◌∷◌, length, take, drop, arith, refl, sym, ap, ◌∙◌, inl, inr, append_assoc, Some, None}
+use Rattle.std.proofs.Common.{◌≡◌, ◌⊎◌, ◌-◌, ◌<◌, ◌++◌, ℕ, suc, Bool, true, false, not, List, [], ◌∷◌, length, take, drop, arith, refl, sym, ap, ◌∙◌, inl, inr, append_assoc, Some, None}
 use Rattle.std.proofs.lemmas.Grind.{common_steps}
 use Rattle.std.proofs.lemmas.List.{append-nil, length-drop}
 use Rattle.std.specs.Char.{is_ascii_whitespace}

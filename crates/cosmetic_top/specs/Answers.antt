@@ -24,6 +24,11 @@ abbrev pub IsDue : {T : Type 0} → Result T Status → Result T Status → Type
 IsDue (Ok x) due = due ≡ Ok x
 IsDue (Err status) due = is_failure status ≡ false → due ≡ Err status
 
+-- the status is the first refusal of two that are tried in order
+abbrev pub IsFirstRefusal : {A B : Type 0} → Status → Result A Status → Result B Status → Type 0
+IsFirstRefusal status (Err first) second = status ≡ first
+IsFirstRefusal status (Ok x) second = second ≡ Err status
+
 -- an error that reading input may give
 abbrev pub IsInputError : Status → Type 0
 IsInputError Done = ⊥

@@ -1,5 +1,5 @@
 -- Filters of one test, as far as lists are read yet: what they select, and how they are printed.
-use Rattle.std.specs.Prelude.{ℕ, Bool, List, [], ◌∷◌, ◌++◌, map, codes}
+use Rattle.std.specs.Prelude.{ℕ, Bool, Option, List, [], ◌∷◌, ◌++◌, map, codes}
 use Rattle.std.specs.List.{list_any}
 use Rattle.std.specs.Str.{bytes_eq}
 use Rattle.page_tree.specs.Forest.{Content, document, element, text, comment, value_at}
@@ -28,10 +28,14 @@ abbrev pub canonical_of : SimpleTest → List ℕ
 canonical_of (Class name) = codes "." ++ name
 canonical_of (Id name) = codes "#" ++ name
 
+-- whether an element with this id and this `class` passes the test
+abbrev pub passes : SimpleTest → Option (List ℕ) → Option (List ℕ) → Bool
+passes (Class name) id class = list_any (bytes_eq name) (words_in class)
+passes (Id name) id class = some_fits id (bytes_eq name)
+
 -- whether an element with these attributes passes the test
-abbrev pub passes : SimpleTest → List (List ℕ × List ℕ) → Bool
-passes (Class name) attrs = list_any (bytes_eq name) (words_in (value_at (codes "class") attrs))
-passes (Id name) attrs = some_fits (value_at (codes "id") attrs) (bytes_eq name)
+abbrev pub passes_by : List (List ℕ × List ℕ) → SimpleTest → Bool
+passes_by attrs test = passes test (value_at (codes "id") attrs) (value_at (codes "class") attrs)
 
 -- a row as its element and the places of its filters
 abbrev pub pair_of : HiddenRow → ℕ × List ℕ
@@ -40,6 +44,6 @@ pair_of row = (row.node, row.filters)
 -- the row of a node with this content: none where it is no element, or no filter selects it
 abbrev pub row_of_content : List ListFilter → ℕ → Content → List (ℕ × List ℕ)
 row_of_content filters n document = []
-row_of_content filters n (element name attrs) = with_row n (places_from 0 (λ f. passes f.test attrs) filters) []
+row_of_content filters n (element name attrs) = with_row n (places_from 0 (λ f. passes_by attrs f.test) filters) []
 row_of_content filters n (text bytes) = []
 row_of_content filters n (comment bytes) = []

@@ -30,12 +30,18 @@ read_or_refused (Some t) = Ok t
 abbrev pub tree_due : Option (List ℕ) → Result Tree Status
 tree_due page = bytes_due file.Page page >>= λ bytes. read_or_refused (tidy_page bytes)
 
+-- the bytes of the script; without one, none
+abbrev pub script_due : (List ℕ → Option (List ℕ)) → Option (List ℕ) → Result (List ℕ) Status
+script_due files None = Ok []
+script_due files (Some script) = bytes_due file.Script (files script)
+
 -- the inputs of an accepted command, else the first refusal, where nothing fails
 abbrev pub inputs_due : (List ℕ → Option (List ℕ)) → Named → Result Inputs Status
 inputs_due files names = do
   list ← bytes_due (file.List 1) (files names.list)
   tree ← tree_due (files names.page)
-  Ok (record { list = list; tree = tree })
+  script ← script_due files names.script
+  Ok (record { list = list; tree = tree; script = script })
 
 -- the status that inputs lead to
 abbrev pub status_due : Result Inputs Status → Status
@@ -49,7 +55,7 @@ due (Some names) files = status_due (inputs_due files names)
 
 -- what inputs give
 abbrev pub output_due : Result Inputs Status → List ℕ
-output_due (Ok inputs) = report_of inputs.list inputs.tree
+output_due (Ok inputs) = report_of inputs.list inputs.tree inputs.script
 output_due (Err status) = []
 
 -- what is written for a command; nothing where it isn't accepted

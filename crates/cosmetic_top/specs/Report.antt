@@ -10,7 +10,11 @@ use Rattle.selector_meaning.specs.Meaning.{selects, never}
 use Rattle.selector_meaning.specs.Hidden.{rows_of, hidden}
 use Rattle.cosmetic_top.specs.declared.filters.ListFilter.{ListFilter}
 use Rattle.cosmetic_top.specs.Filters.{selectors_of, canonical_of}
+use Rattle.mutation_script.specs.Lines.{script_line}
+use Rattle.mutation_script.specs.Changes.{PageState, answer, after}
+use Rattle.cosmetic_top.specs.declared.answer.Answer.TheVariants.{Opened}
 use Rattle.cosmetic_top.specs.ListLines.{filters_in, notices_in}
+use Rattle.cosmetic_top.specs.AnswerNames.{answer_name, answer_given}
 
 -- that a line is set aside
 abbrev pub notice_text : ℕ → List ℕ
@@ -75,16 +79,36 @@ step_text number answer t filters =
 abbrev pub end_text : ℕ → List ℕ
 end_text lines = codes "end " ++ decimal lines ++ codes "\n"
 
--- the steps and the end
-abbrev pub steps_text : List ListFilter → Tree → List ℕ
-steps_text filters t = step_text 0 (codes "opened") t filters ++ end_text 0
+-- a tree of the page at its address, whose path is `/`
+abbrev pub at_tree : Tree → PageState
+at_tree t = record { tree = t; path = codes "/" }
 
--- what a report says of a page
-abbrev pub page_text : List ListFilter → Tree → List ℕ
-page_text filters t = head_text filters ++ steps_text filters t
+-- the step after a line of the script
+abbrev pub line_text : PageState → List ListFilter → ℕ × List ℕ → List ℕ
+line_text s filters line =
+    let read = script_line line.1 in
+    step_text line.0 (answer_name (answer_given (answer read s))) (after read s).tree filters
 
--- the whole report: the notices of the list, and what is said of the page
-abbrev pub report_of : List ℕ → Tree → List ℕ
-report_of list t =
+-- the steps after the numbered lines of a script, each with the page as the lines so far leave it
+abbrev pub lines_text : PageState → List ListFilter → List (ℕ × List ℕ) → List ℕ
+lines_text s filters [] = []
+lines_text s filters (line ∷ lines) = line_text s filters line ++ lines_text (after (script_line line.1) s) filters lines
+
+-- the steps after a script, and the end
+abbrev pub script_text : Tree → List ListFilter → List ℕ → List ℕ
+script_text t filters script =
+    lines_text (at_tree t) filters (numbered 1 (lines_of script)) ++ end_text (length (lines_of script))
+
+-- all steps and the end
+abbrev pub steps_text : List ListFilter → Tree → List ℕ → List ℕ
+steps_text filters t script = step_text 0 (answer_name Opened) t filters ++ script_text t filters script
+
+-- what a report says of a page and of a script
+abbrev pub page_text : List ListFilter → Tree → List ℕ → List ℕ
+page_text filters t script = head_text filters ++ steps_text filters t script
+
+-- the whole report: the notices of the list, and what is said of the page and of the script
+abbrev pub report_of : List ℕ → Tree → List ℕ → List ℕ
+report_of list t script =
     let lines = numbered 1 (lines_of list) in
-    notices_text (notices_in lines) ++ page_text (filters_in lines) t
+    notices_text (notices_in lines) ++ page_text (filters_in lines) t script

@@ -42,6 +42,7 @@ fn tell_refusal(rt: &impl Eprint, refusal: InputRefusal) -> io::Result<()> {
             eprintln!(rt; "cosmetic: refused: list {number} too long")
         }
         InputRefusal::TooLong(File::Page) => rt.eprintln("cosmetic: refused: page too long"),
+        InputRefusal::TooLong(File::Script) => rt.eprintln("cosmetic: refused: script too long"),
         InputRefusal::PageNotYet => rt.eprintln("cosmetic: refused: page not yet read"),
     }
 }

@@ -10,7 +10,7 @@ use listed::{Listed, Numbers, Text};
 use std::alloc::{AllocError, Global};
 
 /// The one test of a filter.
-#[derive(Debug, Drop)]
+#[derive(Drop)]
 pub enum SimpleTest {
     /// The class list has this member.
     Class(Text),
@@ -19,14 +19,14 @@ pub enum SimpleTest {
 }
 
 /// A filter: the number of its line, from 1, and its test.
-#[derive(Debug, Drop)]
+#[derive(Drop)]
 pub struct ListFilter {
     pub line: u32,
     pub test: SimpleTest,
 }
 
 /// What a line of a list is.
-#[derive(Debug, Drop)]
+#[derive(Drop)]
 pub enum ListLine {
     Nothing,
     Filter(SimpleTest),
@@ -34,7 +34,7 @@ pub enum ListLine {
 }
 
 /// What a list gives: its filters in order, and the numbers of the lines that are set aside.
-#[derive(Debug, Drop)]
+#[derive(Drop)]
 pub struct ListRead {
     pub filters: Listed<ListFilter>,
     pub notices: Numbers,

@@ -1,8 +1,9 @@
 // Which elements of a page are hidden: every filter is asked on every element.
 ghost use Rattle.std.specs.Prelude.{◌≡◌, ◌<◌, ◌^◌, [], ◌∷◌, ◌++◌, map, length, IfOk, OnOk};
+ghost use Rattle.std.specs.Option.{option_copied};
 ghost use Rattle.page_tree.specs.Forest.{attrs_of};
 ghost use Rattle.selector_meaning.specs.Hidden.{places_from, with_row};
-ghost use Rattle.cosmetic_top.specs.Filters.{passes, pair_of, row_of_content};
+ghost use Rattle.cosmetic_top.specs.Filters.{passes, passes_by, pair_of, row_of_content};
 ghost use Rattle.cosmetic_top.specs.Report.{hidden_rows, rows_of_nodes};
 
 use crate::words::has_word;
@@ -86,26 +87,39 @@ fn passed_places(
     node: &NodeRef<'_>,
 ) -> Result<Numbers, AllocError>
     requires { length filters.now < 2 ^ 32 }
-    ensures { IfOk result (λ places. places ≡ places_from 0 (λ f. passes f.test (attrs_of node.now)) filters.now) }
+    ensures { IfOk result (λ places. places ≡ places_from 0 (λ f. passes_by (attrs_of node.now) f.test) filters.now) }
+{
+    places_by(alloc, filters, node.attr("id"), node.attr("class"))
+}
+
+// The places of the filters that an element with this id and this `class` passes.
+fn places_by(
+    alloc: Global,
+    filters: &[ListFilter],
+    id: Option<&str>,
+    class: Option<&str>,
+) -> Result<Numbers, AllocError>
+    requires { length filters.now < 2 ^ 32 }
+    ensures { IfOk result (λ places. places ≡ places_from 0 (λ f. passes f.test (option_copied id.entry) (option_copied class.entry)) filters.now) }
 {
     let mut places = Numbers::new(alloc);
     for (place, filter) in filters.iter().enumerate() {
-        if passes(&filter.test, node) {
+        if passes(&filter.test, id, class) {
             places.push(place as u32)?;
         }
     }
     Ok(places)
 }
 
-fn passes(test: &SimpleTest, node: &NodeRef<'_>) -> bool
-    ensures { result ≡ passes test.now (attrs_of node.now) }
+fn passes(test: &SimpleTest, id: Option<&str>, class: Option<&str>) -> bool
+    ensures { result ≡ passes test.now (option_copied id.entry) (option_copied class.entry) }
 {
     match test {
-        SimpleTest::Class(name) => match node.attr("class") {
+        SimpleTest::Class(name) => match class {
             Some(value) => has_word(value.as_bytes(), name.as_str().as_bytes()),
             None => false,
         },
-        SimpleTest::Id(name) => match node.attr("id") {
+        SimpleTest::Id(name) => match id {
             Some(value) => name.as_str() == value,
             None => false,
         },

@@ -1,11 +1,13 @@
 // What a command works on, and how it is read.
-ghost use Rattle.std.specs.Prelude.{◌≡◌, ◌≤◌, ◌∷◌, [], ◌++◌, length, IsTrue, IfOk, IfErr, OnOk, IsErrOf};
+ghost use Rattle.std.specs.Prelude.{◌≡◌, ◌≤◌, ◌∷◌, [], ◌++◌, Some, Ok, false, length, option_to_list, IsTrue, IfOk, IfErr, OnOk, IsErrOf};
 ghost use Rattle.cos_outside.specs.Causes.{Rose};
 ghost use Rattle.cos_outside.specs.Runs.{AppendsPrefix};
-ghost use Rattle.cosmetic_top.specs.Command.{Named, in_order};
-ghost use Rattle.cosmetic_top.specs.Output.{bytes_due, tree_due, inputs_due};
-ghost use Rattle.cosmetic_top.specs.Answers.{IsDue, IsInputError};
+ghost use Rattle.std.specs.Option.{option_copied};
+ghost use Rattle.cosmetic_top.specs.Command.{named, in_order};
+ghost use Rattle.cosmetic_top.specs.Output.{bytes_due, tree_due, script_due, inputs_due};
+ghost use Rattle.cosmetic_top.specs.Answers.{IsDue, IsFirstRefusal, IsInputError, is_failure};
 
+use crate::command::Command;
 use crate::{FILE_LIMIT, File, InputRefusal, Status};
 use cos_outside::{ReadError, Shelf, read_file};
 use dom_arena::Dom;
@@ -13,38 +15,86 @@ use html_tree::{PageError, read_page};
 use listed::Bytes;
 use std::alloc::Global;
 
-/// The bytes of a list, and the tree of a page.
+/// The bytes of a list, the tree of a page, and the bytes of a script.
 #[derive(Drop)]
 pub struct Inputs {
     pub list: Bytes,
     pub tree: Dom,
+    pub script: Bytes,
 }
 
-/// Reads the files that a command names, in the order list, page. The first refusal decides.
+/// Reads the files that a command names, in the order list, page, script. The first refusal decides.
 pub fn read_inputs<S: Shelf>(
     alloc: Global,
-    list: &str,
-    page: &str,
+    command: &Command<'_>,
     shelf: &mut S,
 ) -> Result<Inputs, Status>
     ensures due { IsTrue (S.tells shelf.old) →
-        IsDue result (inputs_due (S.files shelf.old) (record { list = list.now; page = page.now })) }
+        IsDue result (inputs_due (S.files shelf.old) (named command.now)) }
     ensures begun { IsTrue (S.tells shelf.old) →
-        AppendsPrefix (S.begun shelf.old) (S.begun shelf.new) (list.now ∷ page.now ∷ []) }
+        AppendsPrefix (S.begun shelf.old) (S.begun shelf.new) (in_order (Some (named command.now))) }
     ensures within { IfOk result (λ inputs. length inputs.list ≤ FILE_LIMIT) }
+    ensures script_within { IfOk result (λ inputs. length inputs.script ≤ FILE_LIMIT) }
     ensures kinds { IfErr result IsInputError }
     ensures fault { IsErrOf result Status.ReadFault → Rose (S.faults shelf.old) (S.faults shelf.new) }
 {
-    let list = read_input(alloc, shelf, list, File::List(1))?;
+    let list = read_input(alloc, shelf, command.list, File::List(1))?;
+    let (tree, script) = read_page_and_script(alloc, command.page, command.script, shelf)?;
+    Ok(Inputs { list, tree, script })
+}
+
+// Reads the page and then the script.
+fn read_page_and_script<S: Shelf>(
+    alloc: Global,
+    page: &str,
+    script: Option<&str>,
+    shelf: &mut S,
+) -> Result<(Dom, Bytes), Status>
+    ensures page { IsTrue (S.tells shelf.old) →
+        IfOk result (λ read. tree_due (S.files shelf.old page.now) ≡ Ok read.0) }
+    ensures script { IsTrue (S.tells shelf.old) →
+        IfOk result (λ read. script_due (S.files shelf.old) (option_copied script.entry) ≡ Ok read.1) }
+    ensures refused { IsTrue (S.tells shelf.old) → IfErr result (λ status. is_failure status ≡ false →
+        IsFirstRefusal status (tree_due (S.files shelf.old page.now)) (script_due (S.files shelf.old) (option_copied script.entry))) }
+    ensures begun { IsTrue (S.tells shelf.old) →
+        AppendsPrefix (S.begun shelf.old) (S.begun shelf.new) (page.now ∷ option_to_list (option_copied script.entry)) }
+    ensures within { IfOk result (λ read. length read.1 ≤ FILE_LIMIT) }
+    ensures kinds { IfErr result IsInputError }
+    ensures later { S.faults shelf.old ≤ S.faults shelf.new }
+    ensures fault { IsErrOf result Status.ReadFault → Rose (S.faults shelf.old) (S.faults shelf.new) }
+{
     let tree = read_tree(alloc, shelf, page)?;
-    Ok(Inputs { list, tree })
+    let script = read_script(alloc, shelf, script)?;
+    Ok((tree, script))
+}
+
+// Reads the script, if there is one.
+fn read_script<S: Shelf>(
+    alloc: Global,
+    shelf: &mut S,
+    script: Option<&str>,
+) -> Result<Bytes, Status>
+    ensures due { IsTrue (S.tells shelf.old) → IsDue result (script_due (S.files shelf.old) (option_copied script.entry)) }
+    ensures begun { IsTrue (S.tells shelf.old) →
+        AppendsPrefix (S.begun shelf.old) (S.begun shelf.new) (option_to_list (option_copied script.entry)) }
+    ensures within { IfOk result (λ bytes. length bytes ≤ FILE_LIMIT) }
+    ensures kinds { IfErr result IsInputError }
+    ensures later { S.faults shelf.old ≤ S.faults shelf.new }
+    ensures fault { IsErrOf result Status.ReadFault → Rose (S.faults shelf.old) (S.faults shelf.new) }
+{
+    match script {
+        Some(name) => read_input(alloc, shelf, name, File::Script),
+        None => Ok(Bytes::new(alloc)),
+    }
 }
 
 // Reads the page.
 fn read_tree<S: Shelf>(alloc: Global, shelf: &mut S, page: &str) -> Result<Dom, Status>
     ensures told { S.tells shelf.new ≡ S.tells shelf.old }
+    ensures same_files { S.files shelf.new ≡ S.files shelf.old }
     ensures due { IsTrue (S.tells shelf.old) → IsDue result (tree_due (S.files shelf.old page.now)) }
     ensures begun { IsTrue (S.tells shelf.old) → AppendsPrefix (S.begun shelf.old) (S.begun shelf.new) (page.now ∷ []) }
+    ensures begun_whole { IsTrue (S.tells shelf.old) → OnOk result (S.begun shelf.new ≡ S.begun shelf.old ++ page.now ∷ []) }
     ensures kinds { IfErr result IsInputError }
     ensures later { S.faults shelf.old ≤ S.faults shelf.new }
     ensures fault { IsErrOf result Status.ReadFault → Rose (S.faults shelf.old) (S.faults shelf.new) }

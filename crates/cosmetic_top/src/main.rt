@@ -1,6 +1,9 @@
 //! The program `cosmetic`: which elements of a page are hidden, by which filter of a list.
 #![tactic(auto)]
 
+mod answer;
+mod changes;
+mod command;
 mod end;
 mod filters;
 mod hiding;
@@ -11,6 +14,9 @@ mod texts;
 mod words;
 mod writing;
 
+pub use answer::Answer;
+pub use changes::follow_line;
+pub use command::{Command, command_of};
 use cos_outside::{FileShelf, StdSink};
 pub use filters::{ListFilter, ListRead, SimpleTest, read_list};
 pub use hiding::hidden_rows;
@@ -51,8 +57,9 @@ mod tests {
 
     const PAGE: &str = "<div id=\"top\"><span class=\"ad\">x</span></div>";
 
-    const REPORT: &str =
-        "note 1:3 set-aside NotYet\npage https://example.com/\nactive 2\nfilter 1:1 .ad\nfilter 1:2 #top\nstep 0 opened\nhidden 2\n 1 div 1:2\n 2 span 1:1\nend 0\n";
+    fn report() -> &'static str {
+        "note 1:3 set-aside NotYet\npage https://example.com/\nactive 2\nfilter 1:1 .ad\nfilter 1:2 #top\nstep 0 opened\nhidden 2\n 1 div 1:2\n 2 span 1:1\nend 0\n"
+    }
 
     const NOTHING: &str = "page https://example.com/\nactive 0\nstep 0 opened\nhidden 0\nend 0\n";
 
@@ -76,45 +83,154 @@ mod tests {
         Ok(words)
     }
 
+    const ONE: &str = "<div class=\"x\">t</div>";
+
+    // a script of changes, of lines that are refused, and of a word that isn't read yet
+    const CHANGES: &[u8] =
+        b"attr 1 class y\nunset 1 class\nattr 1 class x z\nmove 1 0 0\nattr 2 id q\nattr 5 id q\n";
+
+    fn changed() -> &'static str {
+        "page https://example.com/\nactive 1\nfilter 1:1 .x\nstep 0 opened\nhidden 1\n 1 div 1:1\nstep 1 ok\nhidden 0\nstep 2 ok\nhidden 0\nstep 3 ok\nhidden 1\n 1 div 1:1\nstep 4 bad NotYet\nhidden 1\n 1 div 1:1\nstep 5 refused NotElement 2\nhidden 1\n 1 div 1:1\nstep 6 refused NoSuchNode 5\nhidden 1\n 1 div 1:1\nend 6\n"
+    }
+
+    // what was written where the step of the second line can't be
+    fn changed_once() -> &'static str {
+        "page https://example.com/\nactive 1\nfilter 1:1 .x\nstep 0 opened\nhidden 1\n 1 div 1:1\nstep 1 ok\nhidden 0\n"
+    }
+
+    // a line of each cause, lines that end with CR LF, and a last line that nothing ends
+    const FAULTY: &[u8] =
+        b"\xff\nfly\nattr 1\nattr 01 id q\nunset 4294967296 id\nattr 1 a=b c\nunset 1 class x\n \t\r\nattr 0 id q\r\nattr 1 class w  x";
+
+    fn faults() -> &'static str {
+        "page https://example.com/\nactive 1\nfilter 1:1 .x\nstep 0 opened\nhidden 1\n 1 div 1:1\nstep 1 bad NotUtf8\nhidden 1\n 1 div 1:1\nstep 2 bad UnknownWord\nhidden 1\n 1 div 1:1\nstep 3 bad MissingField\nhidden 1\n 1 div 1:1\nstep 4 bad BadNumber\nhidden 1\n 1 div 1:1\nstep 5 bad BadNumber\nhidden 1\n 1 div 1:1\nstep 6 bad BadName\nhidden 1\n 1 div 1:1\nstep 7 bad ExtraField\nhidden 1\n 1 div 1:1\nstep 8 blank\nhidden 1\n 1 div 1:1\nstep 9 refused IsDocument\nhidden 1\n 1 div 1:1\nstep 10 ok\nhidden 1\n 1 div 1:1\nend 10\n"
+    }
+
     fn shelf_of(
         alloc: Global,
         list: &str,
         page: &str,
+        script: &[u8],
         fails: u64,
     ) -> Result<MemoryShelf, AllocError> {
+        let mut lines = Bytes::new(alloc);
+        lines.extend(script)?;
         let mut files = NamedFiles::new(alloc);
         files.push((bytes_of(alloc, "L")?, bytes_of(alloc, list)?))?;
         files.push((bytes_of(alloc, "P")?, bytes_of(alloc, page)?))?;
+        files.push((bytes_of(alloc, "S")?, lines))?;
         Ok(MemoryShelf::new(alloc, files, 4096, call(alloc, fails)?))
     }
 
-    // The shelf's calls are `begin` and two of `next` for each file that isn't empty; the sink's are four pieces.
+    // The shelf's calls are `begin` and two of `next` for each file that isn't empty; the sink's are one for each piece of the
+    // report that isn't empty.
     #[test]
     fn a_run_ends_and_writes_as_its_input_says(rt: HostRuntime) -> Result<(), Fail> {
         let alloc = rt.alloc();
         let not_yet = Status::Refused(InputRefusal::PageNotYet);
-        for (words, list, page, shelf_fails, sink_fails, status, written) in [
-            ("apply L P", LIST, PAGE, 99, 99, Status::Done, REPORT),
-            ("apply L P", "", "", 99, 99, Status::Done, NOTHING),
-            ("apply L P", LIST, "<div>", 99, 99, not_yet, ""),
-            ("apply L", LIST, PAGE, 99, 99, Status::Usage, ""),
-            ("apply L P L P", LIST, PAGE, 99, 99, Status::Usage, ""),
-            ("lists L P", LIST, PAGE, 99, 99, Status::Usage, ""),
-            ("apply L Q", LIST, PAGE, 99, 99, Status::ReadFault, ""),
-            ("apply L P", LIST, PAGE, 1, 99, Status::ReadFault, ""),
-            ("apply L P", LIST, PAGE, 6, 99, Status::ReadFault, ""),
-            ("apply L P", LIST, PAGE, 99, 1, Status::WriteFault, ""),
+        let fault = Status::WriteFault;
+        let notice = "note 1:3 set-aside NotYet\n";
+        for (words, list, page, script, shelf_fails, sink_fails, status, written) in [
             (
                 "apply L P",
                 LIST,
                 PAGE,
+                CHANGES,
                 99,
-                2,
-                Status::WriteFault,
-                "note 1:3 set-aside NotYet\n",
+                99,
+                Status::Done,
+                report(),
             ),
+            ("apply L P", "", "", CHANGES, 99, 99, Status::Done, NOTHING),
+            ("apply L P", LIST, "<div>", CHANGES, 99, 99, not_yet, ""),
+            ("apply L", LIST, PAGE, CHANGES, 99, 99, Status::Usage, ""),
+            (
+                "apply L P S S",
+                LIST,
+                PAGE,
+                CHANGES,
+                99,
+                99,
+                Status::Usage,
+                "",
+            ),
+            ("lists L P", LIST, PAGE, CHANGES, 99, 99, Status::Usage, ""),
+            (
+                "apply L Q",
+                LIST,
+                PAGE,
+                CHANGES,
+                99,
+                99,
+                Status::ReadFault,
+                "",
+            ),
+            (
+                "apply L P",
+                LIST,
+                PAGE,
+                CHANGES,
+                1,
+                99,
+                Status::ReadFault,
+                "",
+            ),
+            (
+                "apply L P",
+                LIST,
+                PAGE,
+                CHANGES,
+                6,
+                99,
+                Status::ReadFault,
+                "",
+            ),
+            ("apply L P", LIST, PAGE, CHANGES, 99, 1, fault, ""),
+            ("apply L P", LIST, PAGE, CHANGES, 99, 2, fault, notice),
+            (
+                "apply L P S",
+                "##.x",
+                ONE,
+                CHANGES,
+                99,
+                99,
+                Status::Done,
+                changed(),
+            ),
+            (
+                "apply L P S",
+                "##.x",
+                ONE,
+                FAULTY,
+                99,
+                99,
+                Status::Done,
+                faults(),
+            ),
+            (
+                "apply L P S",
+                "##.x",
+                ONE,
+                CHANGES,
+                99,
+                4,
+                fault,
+                changed_once(),
+            ),
+            ("apply L P S", "", "", b"", 99, 99, Status::Done, NOTHING),
+            (
+                "apply L P Q",
+                "##.x",
+                ONE,
+                CHANGES,
+                99,
+                99,
+                Status::ReadFault,
+                "",
+            ),
+            ("apply L P Q", LIST, "<div>", CHANGES, 99, 99, not_yet, ""),
         ] {
-            let mut shelf = shelf_of(alloc, list, page, shelf_fails)?;
+            let mut shelf = shelf_of(alloc, list, page, script, shelf_fails)?;
             let mut out = MemorySink::new(alloc, call(alloc, sink_fails)?);
             let words = words_of(alloc, words)?;
             let ended = run(alloc, words.as_slice(), &mut shelf, &mut out);

@@ -2,11 +2,12 @@
 ghost use Rattle.std.specs.Prelude.{◌≡◌, ◌↔◌, ◌≤◌, ◌++◌, ◌∷◌, [], false, None, Some, length, map, string_bytes, IsTrue, IfErr, OnOk, IsErrOf, MatchOption};
 ghost use Rattle.cos_outside.specs.Causes.{Rose};
 ghost use Rattle.cos_outside.specs.Runs.{AppendsPrefix};
-ghost use Rattle.cosmetic_top.specs.Command.{names_of, in_order};
+ghost use Rattle.cosmetic_top.specs.Command.{names_of, in_order, named};
 ghost use Rattle.cosmetic_top.specs.Output.{due, output_of, inputs_due, status_due, output_due};
 ghost use Rattle.cosmetic_top.specs.Answers.{is_failure, is_refusal, IsRunError};
 
 use crate::Status;
+use crate::command::{Command, command_of};
 use crate::inputs::read_inputs;
 use crate::writing::write_report;
 use cos_outside::{Shelf, Sink};
@@ -15,7 +16,8 @@ use std::alloc::Global;
 /// All that the program does. `words` are those behind the program's own name.
 ///
 /// The words `apply LIST PAGE` read a filter list and a page from the shelf, and write to the sink which elements of the
-/// page are hidden, by which filter of the list. All other words are `Usage`. A file past `FILE_LIMIT` bytes is refused as
+/// page are hidden, by which filter of the list; `apply LIST PAGE SCRIPT` does so again after each line of a script of
+/// changes. All other words are `Usage`. A file past `FILE_LIMIT` bytes is refused as
 /// `TooLong`, and a page that isn't tidy as `PageNotYet`; nothing is written before all input is accepted.
 pub fn run<S: Shelf, O: Sink>(alloc: Global, words: &[String], shelf: &mut S, out: &mut O) -> Status
     ensures usage { (result ≡ Status.Usage) ↔ (names_of (map string_bytes words.now) ≡ None) }
@@ -37,8 +39,8 @@ pub fn run<S: Shelf, O: Sink>(alloc: Global, words: &[String], shelf: &mut S, ou
         AppendsPrefix (O.written out.old) (O.written out.new) (output_of (names_of (map string_bytes words.now)) (S.files shelf.old)) }
     ensures silent { IsTrue (O.tells out.old) → IsTrue (is_refusal result) → O.written out.new ≡ O.written out.old }
 {
-    match names(words) {
-        Some((list, page)) => match apply(alloc, list, page, shelf, out) {
+    match command_of(words) {
+        Some(command) => match apply(alloc, &command, shelf, out) {
             Ok(()) => Status::Done,
             Err(status) => status,
         },
@@ -46,41 +48,29 @@ pub fn run<S: Shelf, O: Sink>(alloc: Global, words: &[String], shelf: &mut S, ou
     }
 }
 
-// The names of the list and of the page.
-fn names(words: &[String]) -> Option<(&str, &str)>
-    ensures { MatchOption result (names_of (map string_bytes words.now) ≡ None)
-        (λ names. names_of (map string_bytes words.now) ≡ Some (record { list = names.0.now; page = names.1.now })) }
-{
-    match words {
-        [word, list, page] if word.as_str() == "apply" => Some((list.as_str(), page.as_str())),
-        _ => None,
-    }
-}
-
 // Reads the inputs, and writes the report. An `Err` is none of Done and Usage.
 fn apply<S: Shelf, O: Sink>(
     alloc: Global,
-    list: &str,
-    page: &str,
+    command: &Command<'_>,
     shelf: &mut S,
     out: &mut O,
 ) -> Result<(), Status>
     ensures kinds { IfErr result IsRunError }
     ensures done { IsTrue (S.tells shelf.old) → OnOk result
-        (status_due (inputs_due (S.files shelf.old) (record { list = list.now; page = page.now })) ≡ Status.Done) }
+        (status_due (inputs_due (S.files shelf.old) (named command.now)) ≡ Status.Done) }
     ensures refused { IsTrue (S.tells shelf.old) → IfErr result (λ status. is_failure status ≡ false →
-        status ≡ status_due (inputs_due (S.files shelf.old) (record { list = list.now; page = page.now }))) }
+        status ≡ status_due (inputs_due (S.files shelf.old) (named command.now))) }
     ensures read_fault { IsErrOf result Status.ReadFault → Rose (S.faults shelf.old) (S.faults shelf.new) }
     ensures write_fault { IsErrOf result Status.WriteFault → Rose (O.faults out.old) (O.faults out.new) }
     ensures begun { IsTrue (S.tells shelf.old) →
-        AppendsPrefix (S.begun shelf.old) (S.begun shelf.new) (list.now ∷ page.now ∷ []) }
+        AppendsPrefix (S.begun shelf.old) (S.begun shelf.new) (in_order (Some (named command.now))) }
     ensures output { IsTrue (S.tells shelf.old) → IsTrue (O.tells out.old) → OnOk result
-        (O.written out.new ≡ O.written out.old ++ output_due (inputs_due (S.files shelf.old) (record { list = list.now; page = page.now }))) }
+        (O.written out.new ≡ O.written out.old ++ output_due (inputs_due (S.files shelf.old) (named command.now))) }
     ensures front { IsTrue (S.tells shelf.old) → IsTrue (O.tells out.old) →
-        AppendsPrefix (O.written out.old) (O.written out.new) (output_due (inputs_due (S.files shelf.old) (record { list = list.now; page = page.now }))) }
+        AppendsPrefix (O.written out.old) (O.written out.new) (output_due (inputs_due (S.files shelf.old) (named command.now))) }
     ensures silent { IsTrue (O.tells out.old) → IfErr result (λ status. IsTrue (is_refusal status) → O.written out.new ≡ O.written out.old) }
 {
-    let inputs = read_inputs(alloc, list, page, shelf)?;
-    write_report(alloc, out, &inputs)?;
+    let inputs = read_inputs(alloc, command, shelf)?;
+    write_report(alloc, out, inputs)?;
     Ok(())
 }

@@ -8,6 +8,7 @@ pub enum File {
     /// A list, by its number from 1.
     List(u32),
     Page,
+    Script,
 }
 
 /// Why the input of a command is refused.

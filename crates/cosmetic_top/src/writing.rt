@@ -2,17 +2,24 @@
 ghost use Rattle.std.specs.Prelude.{◌≡◌, ◌<◌, ◌≤◌, ◌^◌, ◌++◌, length, string_bytes, IsTrue, IfOk, OnOk, IsErrOf};
 ghost use Rattle.cos_outside.specs.Causes.{Rose};
 ghost use Rattle.cos_outside.specs.Runs.{AppendsPrefix};
-ghost use Rattle.cosmetic_top.specs.Report.{notices_text, head_text, step_text, end_text, steps_text, page_text, report_of};
+ghost use Rattle.cos_source.specs.Lines.{lines_of, numbered};
+ghost use Rattle.mutation_script.specs.Lines.{script_line};
+ghost use Rattle.mutation_script.specs.Changes.{after};
+ghost use Rattle.cosmetic_top.specs.AnswerNames.{answer_name};
+ghost use Rattle.cosmetic_top.specs.Report.{notices_text, head_text, step_text, end_text, at_tree, line_text, lines_text, script_text, steps_text, page_text, report_of};
 
+use crate::answer::{Answer, answer_name};
+use crate::changes::follow_line;
 use crate::hiding::hidden_rows;
 use crate::inputs::Inputs;
 use crate::{ListFilter, read_list, texts};
 use cos_outside::{Failed, Sink, write_whole};
+use cos_source::Lines;
 use dom_arena::Dom;
 use std::alloc::{AllocError, Global};
 
 /// Why a report wasn't written whole.
-#[derive(Clone, Copy, Debug, PartialEq, Eq)]
+#[derive(Clone, Copy)]
 pub enum ReportError {
     WriteFault,
     NoMemory,
@@ -86,14 +93,14 @@ pub fn write_step<O: Sink>(
     alloc: Global,
     out: &mut O,
     number: u32,
-    answer: &str,
+    answer: Answer,
     dom: &Dom,
     filters: &[ListFilter],
 ) -> Result<(), ReportError>
     requires { length filters.now < 2 ^ 32 }
     ensures told { O.tells out.new ≡ O.tells out.old }
-    ensures whole { IsTrue (O.tells out.old) → OnOk result (O.written out.new ≡ O.written out.old ++ step_text number answer.now dom.now filters.now) }
-    ensures front { IsTrue (O.tells out.old) → AppendsPrefix (O.written out.old) (O.written out.new) (step_text number answer.now dom.now filters.now) }
+    ensures whole { IsTrue (O.tells out.old) → OnOk result (O.written out.new ≡ O.written out.old ++ step_text number (answer_name answer) dom.now filters.now) }
+    ensures front { IsTrue (O.tells out.old) → AppendsPrefix (O.written out.old) (O.written out.new) (step_text number (answer_name answer) dom.now filters.now) }
     ensures later { O.faults out.old ≤ O.faults out.new }
     ensures fault { IsErrOf result ReportError.WriteFault → Rose (O.faults out.old) (O.faults out.new) }
 {
@@ -105,90 +112,179 @@ pub fn write_step<O: Sink>(
 fn step(
     alloc: Global,
     number: u32,
-    answer: &str,
+    answer: Answer,
     dom: &Dom,
     filters: &[ListFilter],
 ) -> Result<String, AllocError>
     requires { length filters.now < 2 ^ 32 }
-    ensures { IfOk result (λ text. string_bytes text ≡ step_text number answer.now dom.now filters.now) }
+    ensures { IfOk result (λ text. string_bytes text ≡ step_text number (answer_name answer) dom.now filters.now) }
 {
     let rows = hidden_rows(alloc, dom, filters)?;
-    texts::step_text(alloc, number, answer, dom, filters, rows.as_slice())
+    let answer = answer_name(alloc, answer)?;
+    texts::step_text(
+        alloc,
+        number,
+        answer.as_str(),
+        dom,
+        filters,
+        rows.as_slice(),
+    )
 }
 
-/// Writes the whole report of a list and a page.
-pub fn write_report<O: Sink>(alloc: Global, out: &mut O, inputs: &Inputs) -> Result<(), ReportError>
-    requires { length inputs.now.list < 2 ^ 32 }
+/// Writes the whole report of a list, a page and a script, and leaves the page as the script does.
+pub fn write_report<O: Sink>(alloc: Global, out: &mut O, inputs: Inputs) -> Result<(), ReportError>
+    requires list { length inputs.list < 2 ^ 32 }
+    requires script { length inputs.script < 2 ^ 32 }
     ensures told { O.tells out.new ≡ O.tells out.old }
-    ensures whole { IsTrue (O.tells out.old) → OnOk result (O.written out.new ≡ O.written out.old ++ report_of inputs.now.list inputs.now.tree) }
-    ensures front { IsTrue (O.tells out.old) → AppendsPrefix (O.written out.old) (O.written out.new) (report_of inputs.now.list inputs.now.tree) }
+    ensures whole { IsTrue (O.tells out.old) → OnOk result (O.written out.new ≡ O.written out.old ++ report_of inputs.list inputs.tree inputs.script) }
+    ensures front { IsTrue (O.tells out.old) → AppendsPrefix (O.written out.old) (O.written out.new) (report_of inputs.list inputs.tree inputs.script) }
     ensures later { O.faults out.old ≤ O.faults out.new }
     ensures fault { IsErrOf result ReportError.WriteFault → Rose (O.faults out.old) (O.faults out.new) }
 {
-    let read = read_list(alloc, inputs.list.as_slice())?;
+    let Inputs {
+        list,
+        mut tree,
+        script,
+    } = inputs;
+    let read = read_list(alloc, list.as_slice())?;
     write_read(
         alloc,
         out,
         read.notices.as_slice(),
         read.filters.as_slice(),
-        &inputs.tree,
+        &mut tree,
+        script.as_slice(),
     )
 }
 
-// Writes the report of what a list gives, and of a page.
+// Writes the report of what a list gives, and of a page and a script.
 fn write_read<O: Sink>(
     alloc: Global,
     out: &mut O,
     notices: &[u32],
     filters: &[ListFilter],
-    dom: &Dom,
+    dom: &mut Dom,
+    script: &[u8],
 ) -> Result<(), ReportError>
-    requires { length filters.now < 2 ^ 32 }
+    requires filters { length filters.now < 2 ^ 32 }
+    requires script { length script.now < 2 ^ 32 }
     ensures told { O.tells out.new ≡ O.tells out.old }
-    ensures whole { IsTrue (O.tells out.old) → OnOk result (O.written out.new ≡ O.written out.old ++ (notices_text notices.now ++ page_text filters.now dom.now)) }
-    ensures front { IsTrue (O.tells out.old) → AppendsPrefix (O.written out.old) (O.written out.new) (notices_text notices.now ++ page_text filters.now dom.now) }
+    ensures whole { IsTrue (O.tells out.old) → OnOk result (O.written out.new ≡ O.written out.old ++ (notices_text notices.now ++ page_text filters.now dom.old script.now)) }
+    ensures front { IsTrue (O.tells out.old) → AppendsPrefix (O.written out.old) (O.written out.new) (notices_text notices.now ++ page_text filters.now dom.old script.now) }
     ensures later { O.faults out.old ≤ O.faults out.new }
     ensures fault { IsErrOf result ReportError.WriteFault → Rose (O.faults out.old) (O.faults out.new) }
 {
     write_notices(alloc, out, notices)?;
-    write_page(alloc, out, filters, dom)?;
+    write_page(alloc, out, filters, dom, script)?;
     Ok(())
 }
 
-// Writes what a report says of a page.
+// Writes what a report says of a page and a script.
 fn write_page<O: Sink>(
     alloc: Global,
     out: &mut O,
     filters: &[ListFilter],
-    dom: &Dom,
+    dom: &mut Dom,
+    script: &[u8],
 ) -> Result<(), ReportError>
-    requires { length filters.now < 2 ^ 32 }
+    requires filters { length filters.now < 2 ^ 32 }
+    requires script { length script.now < 2 ^ 32 }
     ensures told { O.tells out.new ≡ O.tells out.old }
-    ensures whole { IsTrue (O.tells out.old) → OnOk result (O.written out.new ≡ O.written out.old ++ page_text filters.now dom.now) }
-    ensures front { IsTrue (O.tells out.old) → AppendsPrefix (O.written out.old) (O.written out.new) (page_text filters.now dom.now) }
+    ensures whole { IsTrue (O.tells out.old) → OnOk result (O.written out.new ≡ O.written out.old ++ page_text filters.now dom.old script.now) }
+    ensures front { IsTrue (O.tells out.old) → AppendsPrefix (O.written out.old) (O.written out.new) (page_text filters.now dom.old script.now) }
     ensures later { O.faults out.old ≤ O.faults out.new }
     ensures fault { IsErrOf result ReportError.WriteFault → Rose (O.faults out.old) (O.faults out.new) }
 {
     write_head(alloc, out, filters)?;
-    write_steps(alloc, out, filters, dom)?;
+    write_steps(alloc, out, filters, dom, script)?;
     Ok(())
 }
 
-// Writes the steps and the end.
+// Writes all steps and the end.
 fn write_steps<O: Sink>(
     alloc: Global,
     out: &mut O,
     filters: &[ListFilter],
-    dom: &Dom,
+    dom: &mut Dom,
+    script: &[u8],
 ) -> Result<(), ReportError>
-    requires { length filters.now < 2 ^ 32 }
+    requires filters { length filters.now < 2 ^ 32 }
+    requires script { length script.now < 2 ^ 32 }
     ensures told { O.tells out.new ≡ O.tells out.old }
-    ensures whole { IsTrue (O.tells out.old) → OnOk result (O.written out.new ≡ O.written out.old ++ steps_text filters.now dom.now) }
-    ensures front { IsTrue (O.tells out.old) → AppendsPrefix (O.written out.old) (O.written out.new) (steps_text filters.now dom.now) }
+    ensures whole { IsTrue (O.tells out.old) → OnOk result (O.written out.new ≡ O.written out.old ++ steps_text filters.now dom.old script.now) }
+    ensures front { IsTrue (O.tells out.old) → AppendsPrefix (O.written out.old) (O.written out.new) (steps_text filters.now dom.old script.now) }
     ensures later { O.faults out.old ≤ O.faults out.new }
     ensures fault { IsErrOf result ReportError.WriteFault → Rose (O.faults out.old) (O.faults out.new) }
 {
-    write_step(alloc, out, 0, "opened", dom, filters)?;
-    write_end(alloc, out, 0)?;
+    write_step(alloc, out, 0, Answer::Opened, dom, filters)?;
+    write_script(alloc, out, filters, dom, script)?;
     Ok(())
+}
+
+// Writes a step for each line of the script, and the end.
+fn write_script<O: Sink>(
+    alloc: Global,
+    out: &mut O,
+    filters: &[ListFilter],
+    dom: &mut Dom,
+    script: &[u8],
+) -> Result<(), ReportError>
+    requires filters { length filters.now < 2 ^ 32 }
+    requires script { length script.now < 2 ^ 32 }
+    ensures told { O.tells out.new ≡ O.tells out.old }
+    ensures whole { IsTrue (O.tells out.old) → OnOk result (O.written out.new ≡ O.written out.old ++ script_text dom.old filters.now script.now) }
+    ensures front { IsTrue (O.tells out.old) → AppendsPrefix (O.written out.old) (O.written out.new) (script_text dom.old filters.now script.now) }
+    ensures later { O.faults out.old ≤ O.faults out.new }
+    ensures fault { IsErrOf result ReportError.WriteFault → Rose (O.faults out.old) (O.faults out.new) }
+{
+    let count = write_lines(alloc, out, filters, dom, script)?;
+    write_end(alloc, out, count)?;
+    Ok(())
+}
+
+// Writes a step for each line of the script, and answers how many lines there are.
+fn write_lines<O: Sink>(
+    alloc: Global,
+    out: &mut O,
+    filters: &[ListFilter],
+    dom: &mut Dom,
+    script: &[u8],
+) -> Result<u32, ReportError>
+    requires filters { length filters.now < 2 ^ 32 }
+    requires script { length script.now < 2 ^ 32 }
+    ensures told { O.tells out.new ≡ O.tells out.old }
+    ensures count { IfOk result (λ count. count ≡ length (lines_of script.now)) }
+    ensures whole { IsTrue (O.tells out.old) → OnOk result (O.written out.new ≡ O.written out.old ++ lines_text (at_tree dom.old) filters.now (numbered 1 (lines_of script.now))) }
+    ensures front { IsTrue (O.tells out.old) → AppendsPrefix (O.written out.old) (O.written out.new) (lines_text (at_tree dom.old) filters.now (numbered 1 (lines_of script.now))) }
+    ensures later { O.faults out.old ≤ O.faults out.new }
+    ensures fault { IsErrOf result ReportError.WriteFault → Rose (O.faults out.old) (O.faults out.new) }
+{
+    let mut count = 0;
+    let mut lines = Lines::new(script);
+    'lines: while let Some(line) = lines.next() {
+        write_line(alloc, out, filters, dom, line.number, line.bytes)?;
+        count += 1;
+    }
+    Ok(count)
+}
+
+// Makes the change of a line, and writes its step.
+fn write_line<O: Sink>(
+    alloc: Global,
+    out: &mut O,
+    filters: &[ListFilter],
+    dom: &mut Dom,
+    number: u32,
+    line: &[u8],
+) -> Result<(), ReportError>
+    requires { length filters.now < 2 ^ 32 }
+    ensures told { O.tells out.new ≡ O.tells out.old }
+    ensures page { OnOk result (at_tree dom.new ≡ after (script_line line.now) (at_tree dom.old)) }
+    ensures whole { IsTrue (O.tells out.old) → OnOk result (O.written out.new ≡ O.written out.old ++ line_text (at_tree dom.old) filters.now (number, line.now)) }
+    ensures front { IsTrue (O.tells out.old) → AppendsPrefix (O.written out.old) (O.written out.new) (line_text (at_tree dom.old) filters.now (number, line.now)) }
+    ensures later { O.faults out.old ≤ O.faults out.new }
+    ensures fault { IsErrOf result ReportError.WriteFault → Rose (O.faults out.old) (O.faults out.new) }
+{
+    let answer = follow_line(alloc, dom, line)?;
+    write_step(alloc, out, number, answer, dom, filters)
 }

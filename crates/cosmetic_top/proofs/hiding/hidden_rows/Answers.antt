@@ -1,4 +1,4 @@
-use Rattle.std.proofs.Common.{◌≡◌, ◌≤◌, ℕ, map, ◌++◌, ap, sym, ◌∙◌}
+use Rattle.std.proofs.Common.{◌≤◌, ℕ, map, ◌++◌, ap, ◌∙◌}
 use Rattle.page_tree.specs.Forest.{rooted, numbers}
 use Rattle.cosmetic_top.specs.Filters.{pair_of}
 use Rattle.cosmetic_top.specs.Report.{rows_of_nodes, hidden_rows}

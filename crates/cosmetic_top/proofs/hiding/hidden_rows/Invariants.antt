@@ -1,6 +1,5 @@
 use Rattle.std.proofs.Common.{◌≡◌, ◌<◌, ◌++◌, ℕ, length, map, Some}
 use Rattle.page_tree.specs.Forest.{rooted, numbers}
-use Rattle.page_tree.specs.Trees.{IsTree}
 use Rattle.cosmetic_top.specs.Filters.{pair_of}
 use Rattle.cosmetic_top.specs.Report.{hidden_rows, rows_of_nodes}
 use Rattle.cosmetic_top.proofs.Walk.{times, left_at}

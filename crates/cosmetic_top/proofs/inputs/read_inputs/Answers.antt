@@ -1,20 +1,24 @@
-use Rattle.std.proofs.Common.{[], ◌∷◌, IsTrue}
+use Rattle.std.proofs.Common.{[], ◌∷◌, IsTrue, option_to_list}
+use Rattle.std.specs.Option.{option_copied}
 use Rattle.cos_outside.proofs.Appending.{front_of_first, front_of_second}
 use Rattle.cosmetic_top.proofs.inputs.read_inputs.Goals as goal
 
 pub returns-in_err-list-clause-begun : goal.returns-in_err-list-clause-begun
 returns-in_err-list-clause-begun g c = λ told.
     let begun = g.S.Shelf.begun in
-    front_of_first (begun c.args.shelf.now) (begun c.read_input.new.shelf) (c.args.list.now ∷ []) (c.args.page.now ∷ []) (c.read_input.ensures.begun told)
+    let command = c.args.command.now in
+    front_of_first (begun c.args.shelf.now) (begun c.read_input.new.shelf) (command.list.now ∷ []) (command.page.now ∷ option_to_list (option_copied command.script)) (c.read_input.ensures.begun told)
 
 pub returns-in_err-tree-clause-begun : goal.returns-in_err-tree-clause-begun
 returns-in_err-tree-clause-begun g c = λ told.
     let begun = g.S.Shelf.begun in
+    let command = c.args.command.now in
     let tells : IsTrue (g.S.Shelf.tells c.read_input.new.shelf) = rw c.read_input.ensures.told told in
-    front_of_second (begun c.args.shelf.now) (begun c.read_input.new.shelf) (begun c.read_tree.new.shelf) (c.args.list.now ∷ []) (c.args.page.now ∷ []) (c.in_ok-list.ensures.begun_whole told) (c.read_tree.ensures.begun tells)
+    front_of_second (begun c.args.shelf.now) (begun c.read_input.new.shelf) (begun c.read_page_and_script.new.shelf) (command.list.now ∷ []) (command.page.now ∷ option_to_list (option_copied command.script)) (c.in_ok-list.ensures.begun_whole told) (c.read_page_and_script.ensures.begun tells)
 
 pub returns-clause-begun : goal.returns-clause-begun
 returns-clause-begun g c = λ told.
     let begun = g.S.Shelf.begun in
+    let command = c.args.command.now in
     let tells : IsTrue (g.S.Shelf.tells c.read_input.new.shelf) = rw c.read_input.ensures.told told in
-    front_of_second (begun c.args.shelf.now) (begun c.read_input.new.shelf) (begun c.read_tree.new.shelf) (c.args.list.now ∷ []) (c.args.page.now ∷ []) (c.in_ok-list.ensures.begun_whole told) (c.read_tree.ensures.begun tells)
+    front_of_second (begun c.args.shelf.now) (begun c.read_input.new.shelf) (begun c.read_page_and_script.new.shelf) (command.list.now ∷ []) (command.page.now ∷ option_to_list (option_copied command.script)) (c.in_ok-list.ensures.begun_whole told) (c.read_page_and_script.ensures.begun tells)

@@ -5,21 +5,21 @@ use Rattle.cosmetic_top.proofs.Few.{few_filters}
 use Rattle.cosmetic_top.proofs.Reports.{report_text}
 use Rattle.cosmetic_top.proofs.writing.write_report.Goals as goal
 
-pub write_read-requires : goal.write_read-requires
-write_read-requires g c =
+pub write_read-requires-clause-filters : goal.write_read-requires-clause-filters
+write_read-requires-clause-filters g c =
     subst (λ (filters : List ListFilter). length filters < 2 ^ 32) (sym (c.as_slice-3.ensures ∙ c.in_ok-read.ensures.filters))
-    (few_filters c.as_slice.result.now (subst (λ (bytes : List ℕ). length bytes < 2 ^ 32) (sym c.as_slice.ensures) c.requires))
+    (few_filters c.as_slice.result.now (subst (λ (bytes : List ℕ). length bytes < 2 ^ 32) (sym c.as_slice.ensures) c.requires.list))
 
 pub returns-clause-whole : goal.returns-clause-whole
 returns-clause-whole g c = λ told.
     let written = g.O.Sink.written in
     subst (λ (text : List ℕ). OnOk c.write_read.result (written c.write_read.new.out ≡ written c.args.out.now ++ text))
-    (report_text c.args.inputs.now.list c.as_slice.result.now c.in_ok-read.read.notices c.as_slice-2.result.now c.args.inputs.now.tree c.in_ok-read.read.filters c.as_slice-3.result.now
-    c.as_slice.ensures c.as_slice-2.ensures c.as_slice-3.ensures c.in_ok-read.ensures.notices c.in_ok-read.ensures.filters) (c.write_read.ensures.whole told)
+    (report_text c.args.inputs.list c.as_slice.result.now c.in_ok-read.read.notices c.as_slice-2.result.now c.args.inputs.script c.as_slice-4.result.now c.args.inputs.tree c.in_ok-read.read.filters c.as_slice-3.result.now
+    c.as_slice.ensures c.as_slice-2.ensures c.as_slice-3.ensures c.as_slice-4.ensures c.in_ok-read.ensures.notices c.in_ok-read.ensures.filters) (c.write_read.ensures.whole told)
 
 pub returns-clause-front : goal.returns-clause-front
 returns-clause-front g c = λ told.
     let written = g.O.Sink.written in
     subst (λ (text : List ℕ). AppendsPrefix (written c.args.out.now) (written c.write_read.new.out) text)
-    (report_text c.args.inputs.now.list c.as_slice.result.now c.in_ok-read.read.notices c.as_slice-2.result.now c.args.inputs.now.tree c.in_ok-read.read.filters c.as_slice-3.result.now
-    c.as_slice.ensures c.as_slice-2.ensures c.as_slice-3.ensures c.in_ok-read.ensures.notices c.in_ok-read.ensures.filters) (c.write_read.ensures.front told)
+    (report_text c.args.inputs.list c.as_slice.result.now c.in_ok-read.read.notices c.as_slice-2.result.now c.args.inputs.script c.as_slice-4.result.now c.args.inputs.tree c.in_ok-read.read.filters c.as_slice-3.result.now
+    c.as_slice.ensures c.as_slice-2.ensures c.as_slice-3.ensures c.as_slice-4.ensures c.in_ok-read.ensures.notices c.in_ok-read.ensures.filters) (c.write_read.ensures.front told)
