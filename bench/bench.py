@@ -21,20 +21,17 @@ TOP = Path(__file__).resolve().parent.parent
 
 def flat_page(nodes):
     """Rows of an element with a text, all children of the document."""
-    rows = (f'<div class="row c{i % 97}" id="r{i}">text {i} of the page</div>' for i in range(nodes // 2))
-    return "".join(rows)
+    for i in range(nodes // 2):
+        yield f'<div class="row c{i % 97}" id="r{i}">text {i} of the page</div>'
 
 
 def nested_page(nodes):
     """Blocks of five nodes, a hundred of them in each section."""
-    parts = []
     for i in range(nodes // 5):
         if i % 100 == 0:
-            parts.append(("</div>" if i else "") + f'<div class="section" id="s{i}">')
-        parts.append(
-            f'<div class="row c{i % 97}"><a class="link" id="a{i}">text {i}</a><span>more text {i} here</span></div>'
-        )
-    return "".join(parts) + "</div>"
+            yield ("</div>" if i else "") + f'<div class="section" id="s{i}">'
+        yield f'<div class="row c{i % 97}"><a class="link" id="a{i}">text {i}</a><span>more text {i} here</span></div>'
+    yield "</div>"
 
 
 def filters(count):
@@ -45,8 +42,14 @@ def filters(count):
 
 def script(lines, nodes):
     """Classes that come and go, all over the page."""
-    changes = (f"attr {1 + 2 * (i * 7919 % (nodes // 2))} class row c{i % 97}" for i in range(lines))
-    return "\n".join(changes) + "\n"
+    for i in range(lines):
+        yield f"attr {1 + 2 * (i * 7919 % (nodes // 2))} class row c{i % 97}\n"
+
+
+def write(file, parts):
+    """Writes a file part by part: what this process holds would count as the peak of the runs that it starts."""
+    with file.open("w") as target:
+        target.writelines(parts)
 
 
 def run(program, folder, words):
@@ -73,7 +76,7 @@ def main():
             times = []
             for nodes in (200_000, 500_000):
                 page = Path(folder, "page")
-                page.write_text(make(nodes))
+                write(page, make(nodes))
                 size = page.stat().st_size
                 seconds, peak, status, output = run(program, folder, ["apply", "list", "page"])
                 times.append(seconds)
@@ -86,11 +89,11 @@ def main():
         nodes = 20_000
         Path(folder, "list").write_text(filters(10))
         page = Path(folder, "page")
-        page.write_text(flat_page(nodes))
+        write(page, flat_page(nodes))
         size = page.stat().st_size
         times = []
         for lines in (500, 2_000):
-            Path(folder, "script").write_text(script(lines, nodes))
+            write(Path(folder, "script"), script(lines, nodes))
             seconds, peak, status, output = run(program, folder, ["apply", "list", "page", "script"])
             times.append(seconds)
             failed |= status != 0
