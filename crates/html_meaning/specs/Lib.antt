@@ -1,0 +1,9 @@
+pub mod Bytes
+pub mod Elements
+pub mod Tokens
+pub mod References
+pub mod Cover
+pub mod Page
+pub mod TokenExample
+pub mod ReferenceExample
+pub mod PageExample
