@@ -1,0 +1,70 @@
+-- Where a text may be cut, and what a text that begins with another has at its front.
+use Rattle.std.proofs.Common.{◌≡◌, ℕ, ◌+◌, ◌-◌, ◌<◌, ◌≤◌, Bool, true, false, List, [], length, drop, take, refl, arith, ap, sym, ◌∙◌, min, subst, ⊎_elim, drop_of_length-le, nat_lt}
+use Rattle.std.proofs.lemmas.List.{length-take, get_or-take, drop-take, drop-drop, drop_min}
+use Rattle.std.proofs.lemmas.Bool.{cases_lt}
+use Rattle.html_tokens.specs.Views.{IsTag, is_whole}
+use Rattle.html_tokens.specs.declared.rules.Whole.{Whole}
+use Rattle.html_meaning.specs.Tokens as meant
+use Rattle.std.proofs.lemmas.Str.{IsCharBoundary-after_ascii}
+use Rattle.std.proofs.lemmas.Slice.Eq.{bytes_eq-Decides}
+use Rattle.std.specs.Str.{IsUtf8, IsCharBoundary}
+use Rattle.std.specs.Prelude.{slice_index}
+use Rattle.html_meaning.specs.Bytes.{begins, up_to}
+use Rattle.html_meaning.specs.Tokens.{ends_comment, is_bogus_comment, is_start, is_end}
+
+pub boundary_behind : (bytes : List ℕ) (count : ℕ) → IsUtf8 bytes → 0 < count → count ≤ length bytes → slice_index bytes (count - 1) < 128 → IsCharBoundary bytes count
+boundary_behind bytes count u z h a =
+    let same : count - 1 + 1 ≡ count = omega arith in
+    subst (IsCharBoundary bytes) same (IsCharBoundary-after_ascii bytes (count - 1) u (omega arith) a)
+
+pub begins_is : (text bytes : List ℕ) → begins text bytes ≡ true → take (length text) bytes ≡ text
+begins_is text bytes e = (bytes_eq-Decides (take (length text) bytes) text).0 e
+
+pub begins_long : (text bytes : List ℕ) → begins text bytes ≡ true → length text ≤ length bytes
+begins_long text bytes e = omega (arith, length-take (length text) bytes, ap length (begins_is text bytes e))
+
+pub begins_at : (text bytes : List ℕ) (i : ℕ) → begins text bytes ≡ true → i < length text → slice_index bytes i ≡ slice_index text i
+begins_at text bytes i e h = sym (get_or-take _ _ i 0 h) ∙ ap (λ bs. slice_index bs i) (begins_is text bytes e)
+
+-- the text of a comment by dashes, and what stands behind it
+pub comment_text : (inner : List ℕ) (u : ℕ) → drop 2 (take u inner) ≡ take (u - 2) (drop 2 inner)
+comment_text inner u =
+    ⊎_elim
+    (λ h. (let z : u - 2 ≡ 0 = omega arith in
+    let short : length (take u inner) ≤ 2 = omega (arith, length-take u inner) in
+    drop_of_length-le (take u inner) short ∙ sym (ap (λ n. take n (drop 2 inner)) z)))
+    (λ h. (let e : u ≡ 2 + (u - 2) = omega arith in ap (λ n. drop 2 (take n inner)) e ∙ drop-take 2 (u - 2) inner))
+    (cases_lt u 2)
+
+pub comment_rest : (source : List ℕ) (u : ℕ) → drop (u + 3) (drop 2 source) ≡ drop (2 + min (length (drop 2 source)) (u + 3)) source
+comment_rest source u =
+    let m : min (length (drop 2 source)) (u + 3) ≡ min (u + 3) (length (drop 2 source)) = omega arith in
+    sym (sym (drop-drop (min (length (drop 2 source)) (u + 3)) 2 source) ∙ ap (λ n. drop n (drop 2 source)) m ∙ drop_min (u + 3) (drop 2 source))
+
+-- a tag that is whole, and one that is cut off
+pub tag_whole : (made : List ℕ → List ℕ → Bool → meant.Piece) (before : ℕ) (source : List ℕ) (w : Whole) → IsTag w (drop before source)
+    → ((meant.tag made before source).piece ≡ made w.name.now w.attrs.now (meant.is_self_closing 0 w.attrs.now)) × (w.rest.now ≡ drop (meant.tag made before source).size source)
+tag_whole made before source w t =
+    let text = drop before source in
+    let name = up_to meant.ends_name text in
+    let at : drop name text ≡ drop (before + name) source = drop-drop name before source in
+    let whole : nat_lt (meant.to_tag_end 0 (drop (before + name) source)) (length (drop (before + name) source)) ≡ true =
+    ap (λ bs. nat_lt (meant.to_tag_end 0 bs) (length bs)) (sym at) ∙ t.whole in
+    let attrs : w.attrs.now ≡ take (meant.to_tag_end 0 (drop (before + name) source)) (drop (before + name) source) = t.attrs ∙ ap (λ bs. take (meant.to_tag_end 0 bs) bs) at in
+    rw (whole, t.name, attrs) (
+      refl,
+      t.rest ∙ ap (λ bs. drop (meant.to_tag_end 0 bs + 1) bs) at ∙ drop-drop (meant.to_tag_end 0 (drop (before + name) source) + 1) (before + name) source
+          ∙ ap (λ n. drop n source) (omega arith),
+    )
+
+pub tag_cut : (made : List ℕ → List ℕ → Bool → meant.Piece) (before : ℕ) (source : List ℕ) → is_whole (drop before source) ≡ false
+    → meant.tag made before source ≡ record { piece = meant.Cut; size = length source }
+tag_cut made before source e =
+    let text = drop before source in
+    let name = up_to meant.ends_name text in
+    let whole : nat_lt (meant.to_tag_end 0 (drop (before + name) source)) (length (drop (before + name) source)) ≡ false =
+    ap (λ bs. nat_lt (meant.to_tag_end 0 bs) (length bs)) (sym (drop-drop name before source)) ∙ e in
+    rw whole refl
+
+pub tag_cut_rest : (source : List ℕ) → drop (length source) source ≡ []
+tag_cut_rest source = let h : length source ≤ length source = omega arith in drop_of_length-le source h

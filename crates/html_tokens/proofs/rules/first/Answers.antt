@@ -1,0 +1,82 @@
+use Rattle.std.proofs.Common.{◌≡◌, true, false, ◌&&◌, length, nat_lt, codes, subst, sym, ap, ◌∙◌}
+use Rattle.html_meaning.specs.Bytes.{begins, begins_like, up_to}
+use Rattle.html_meaning.specs.Tokens as meant
+use Rattle.html_tokens.specs.Views.{Reads}
+use Rattle.html_tokens.proofs.First as rule
+use Rattle.html_tokens.proofs.rules.first.Goals as goal
+
+pub returns-then-begins_raw_text : goal.returns-then-begins_raw_text
+returns-then-begins_raw_text c =
+    let raw = c.args.raw.now in
+    let bytes = c.args.source.now in
+    let same = c.as_bytes-bytes.ensures.value in
+    let t0 : (nat_lt 0 (length raw) && nat_lt 0 (up_to (meant.ends_raw_text raw) bytes)) ≡ true = ap (λ bs. (nat_lt 0 (length raw) && nat_lt 0 (up_to (meant.ends_raw_text raw) bs))) (sym same) ∙ ap (λ name. (nat_lt 0 (length name) && nat_lt 0 (up_to (meant.ends_raw_text name) c.as_bytes-bytes.result.now))) (sym c.as_bytes.ensures.value) ∙ sym c.if-begins_raw_text.ensures in
+    subst (λ f. Reads c.raw_text.result f bytes) (sym (rule.first_raw_text raw bytes t0)) c.raw_text.ensures
+
+pub returns-then-begins : goal.returns-then-begins
+returns-then-begins c =
+    let raw = c.args.raw.now in
+    let bytes = c.args.source.now in
+    let same = c.as_bytes-bytes.ensures.value in
+    let t0 : (nat_lt 0 (length raw) && nat_lt 0 (up_to (meant.ends_raw_text raw) bytes)) ≡ false = ap (λ bs. (nat_lt 0 (length raw) && nat_lt 0 (up_to (meant.ends_raw_text raw) bs))) (sym same) ∙ ap (λ name. (nat_lt 0 (length name) && nat_lt 0 (up_to (meant.ends_raw_text name) c.as_bytes-bytes.result.now))) (sym c.as_bytes.ensures.value) ∙ sym c.if-begins_raw_text.ensures in
+    let t1 : begins (codes "<!--") bytes ≡ true = ap (λ bs. begins (codes "<!--") bs) (sym same) ∙ sym c.if-begins.ensures in
+    subst (λ f. Reads c.comment.result f bytes) (sym (rule.first_comment raw bytes t0 t1)) c.comment.ensures
+
+pub returns-then-begins_like : goal.returns-then-begins_like
+returns-then-begins_like c =
+    let raw = c.args.raw.now in
+    let bytes = c.args.source.now in
+    let same = c.as_bytes-bytes.ensures.value in
+    let t0 : (nat_lt 0 (length raw) && nat_lt 0 (up_to (meant.ends_raw_text raw) bytes)) ≡ false = ap (λ bs. (nat_lt 0 (length raw) && nat_lt 0 (up_to (meant.ends_raw_text raw) bs))) (sym same) ∙ ap (λ name. (nat_lt 0 (length name) && nat_lt 0 (up_to (meant.ends_raw_text name) c.as_bytes-bytes.result.now))) (sym c.as_bytes.ensures.value) ∙ sym c.if-begins_raw_text.ensures in
+    let t1 : begins (codes "<!--") bytes ≡ false = ap (λ bs. begins (codes "<!--") bs) (sym same) ∙ sym c.if-begins.ensures in
+    let t2 : begins_like (codes "<!doctype") bytes ≡ true = ap (λ bs. begins_like (codes "<!doctype") bs) (sym same) ∙ sym c.if-begins_like.ensures in
+    subst (λ f. Reads c.doctype.result f bytes) (sym (rule.first_doctype raw bytes t0 t1 t2)) c.doctype.ensures
+
+pub returns-then-is_bogus_comment : goal.returns-then-is_bogus_comment
+returns-then-is_bogus_comment c =
+    let raw = c.args.raw.now in
+    let bytes = c.args.source.now in
+    let same = c.as_bytes-bytes.ensures.value in
+    let t0 : (nat_lt 0 (length raw) && nat_lt 0 (up_to (meant.ends_raw_text raw) bytes)) ≡ false = ap (λ bs. (nat_lt 0 (length raw) && nat_lt 0 (up_to (meant.ends_raw_text raw) bs))) (sym same) ∙ ap (λ name. (nat_lt 0 (length name) && nat_lt 0 (up_to (meant.ends_raw_text name) c.as_bytes-bytes.result.now))) (sym c.as_bytes.ensures.value) ∙ sym c.if-begins_raw_text.ensures in
+    let t1 : begins (codes "<!--") bytes ≡ false = ap (λ bs. begins (codes "<!--") bs) (sym same) ∙ sym c.if-begins.ensures in
+    let t2 : begins_like (codes "<!doctype") bytes ≡ false = ap (λ bs. begins_like (codes "<!doctype") bs) (sym same) ∙ sym c.if-begins_like.ensures in
+    let t3 : meant.is_bogus_comment bytes ≡ true = ap (λ bs. meant.is_bogus_comment bs) (sym same) ∙ sym c.if-is_bogus_comment.ensures in
+    subst (λ f. Reads c.bogus_comment.result f bytes) (sym (rule.first_bogus_comment raw bytes t0 t1 t2 t3)) c.bogus_comment.ensures
+
+pub returns-then-is_start : goal.returns-then-is_start
+returns-then-is_start c =
+    let raw = c.args.raw.now in
+    let bytes = c.args.source.now in
+    let same = c.as_bytes-bytes.ensures.value in
+    let t0 : (nat_lt 0 (length raw) && nat_lt 0 (up_to (meant.ends_raw_text raw) bytes)) ≡ false = ap (λ bs. (nat_lt 0 (length raw) && nat_lt 0 (up_to (meant.ends_raw_text raw) bs))) (sym same) ∙ ap (λ name. (nat_lt 0 (length name) && nat_lt 0 (up_to (meant.ends_raw_text name) c.as_bytes-bytes.result.now))) (sym c.as_bytes.ensures.value) ∙ sym c.if-begins_raw_text.ensures in
+    let t1 : begins (codes "<!--") bytes ≡ false = ap (λ bs. begins (codes "<!--") bs) (sym same) ∙ sym c.if-begins.ensures in
+    let t2 : begins_like (codes "<!doctype") bytes ≡ false = ap (λ bs. begins_like (codes "<!doctype") bs) (sym same) ∙ sym c.if-begins_like.ensures in
+    let t3 : meant.is_bogus_comment bytes ≡ false = ap (λ bs. meant.is_bogus_comment bs) (sym same) ∙ sym c.if-is_bogus_comment.ensures in
+    let t4 : meant.is_start bytes ≡ true = ap (λ bs. meant.is_start bs) (sym same) ∙ sym c.if-is_start.ensures in
+    subst (λ f. Reads c.start_tag.result f bytes) (sym (rule.first_start_tag raw bytes t0 t1 t2 t3 t4)) c.start_tag.ensures
+
+pub returns-then-is_end : goal.returns-then-is_end
+returns-then-is_end c =
+    let raw = c.args.raw.now in
+    let bytes = c.args.source.now in
+    let same = c.as_bytes-bytes.ensures.value in
+    let t0 : (nat_lt 0 (length raw) && nat_lt 0 (up_to (meant.ends_raw_text raw) bytes)) ≡ false = ap (λ bs. (nat_lt 0 (length raw) && nat_lt 0 (up_to (meant.ends_raw_text raw) bs))) (sym same) ∙ ap (λ name. (nat_lt 0 (length name) && nat_lt 0 (up_to (meant.ends_raw_text name) c.as_bytes-bytes.result.now))) (sym c.as_bytes.ensures.value) ∙ sym c.if-begins_raw_text.ensures in
+    let t1 : begins (codes "<!--") bytes ≡ false = ap (λ bs. begins (codes "<!--") bs) (sym same) ∙ sym c.if-begins.ensures in
+    let t2 : begins_like (codes "<!doctype") bytes ≡ false = ap (λ bs. begins_like (codes "<!doctype") bs) (sym same) ∙ sym c.if-begins_like.ensures in
+    let t3 : meant.is_bogus_comment bytes ≡ false = ap (λ bs. meant.is_bogus_comment bs) (sym same) ∙ sym c.if-is_bogus_comment.ensures in
+    let t4 : meant.is_start bytes ≡ false = ap (λ bs. meant.is_start bs) (sym same) ∙ sym c.if-is_start.ensures in
+    let t5 : meant.is_end bytes ≡ true = ap (λ bs. meant.is_end bs) (sym same) ∙ sym c.if-is_end.ensures in
+    subst (λ f. Reads c.end_tag.result f bytes) (sym (rule.first_end_tag raw bytes t0 t1 t2 t3 t4 t5)) c.end_tag.ensures
+
+pub returns-else-is_end : goal.returns-else-is_end
+returns-else-is_end c =
+    let raw = c.args.raw.now in
+    let bytes = c.args.source.now in
+    let same = c.as_bytes-bytes.ensures.value in
+    let t0 : (nat_lt 0 (length raw) && nat_lt 0 (up_to (meant.ends_raw_text raw) bytes)) ≡ false = ap (λ bs. (nat_lt 0 (length raw) && nat_lt 0 (up_to (meant.ends_raw_text raw) bs))) (sym same) ∙ ap (λ name. (nat_lt 0 (length name) && nat_lt 0 (up_to (meant.ends_raw_text name) c.as_bytes-bytes.result.now))) (sym c.as_bytes.ensures.value) ∙ sym c.if-begins_raw_text.ensures in
+    let t1 : begins (codes "<!--") bytes ≡ false = ap (λ bs. begins (codes "<!--") bs) (sym same) ∙ sym c.if-begins.ensures in
+    let t2 : begins_like (codes "<!doctype") bytes ≡ false = ap (λ bs. begins_like (codes "<!doctype") bs) (sym same) ∙ sym c.if-begins_like.ensures in
+    let t3 : meant.is_bogus_comment bytes ≡ false = ap (λ bs. meant.is_bogus_comment bs) (sym same) ∙ sym c.if-is_bogus_comment.ensures in
+    let t4 : meant.is_start bytes ≡ false = ap (λ bs. meant.is_start bs) (sym same) ∙ sym c.if-is_start.ensures in
+    let t5 : meant.is_end bytes ≡ false = ap (λ bs. meant.is_end bs) (sym same) ∙ sym c.if-is_end.ensures in
+    subst (λ f. Reads c.text.result f bytes) (sym (rule.first_text raw bytes t0 t1 t2 t3 t4 t5)) c.text.ensures
