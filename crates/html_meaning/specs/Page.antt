@@ -7,7 +7,7 @@ use Rattle.page_tree.specs.Forest.{Content, element, text, comment, empty, node,
 use Rattle.page_tree.specs.Edits.{appended}
 use Rattle.html_meaning.specs.Bytes.{lower, is_among}
 use Rattle.html_meaning.specs.Elements.{implied_ends, has_content}
-use Rattle.html_meaning.specs.Tokens.{Piece, Start, End, Chars, Comment, Doctype, Cut, Token, Attribute, attributes, tokens}
+use Rattle.html_meaning.specs.Tokens.{Piece, Start, End, Chars, Comment, Doctype, Cut, Token, attribute_pairs, tokens}
 use Rattle.html_meaning.specs.References.{resolved}
 
 -- what a token does to the tree: it opens an element of this name, with content behind it or without, or it ends one of
@@ -65,7 +65,7 @@ firsts seen (a ∷ attrs) = cond (is_among a.0 seen) (firsts seen attrs) (a ∷ 
 
 -- the attributes of an element, from the text between its tag's name and `>`: names in lower case, references resolved
 abbrev pub element_attributes : List ℕ → List (List ℕ × List ℕ)
-element_attributes attrs = firsts [] (map (λ (a : Attribute). (lower a.name, resolved 0 a.value)) (attributes 0 attrs))
+element_attributes attrs = firsts [] (map (λ a. (lower a.0, resolved 0 a.1)) (attribute_pairs attrs))
 
 -- the node that a token makes
 abbrev pub content_of : Piece → Option Content

@@ -1,14 +1,10 @@
 -- Tokens of each kind, and the attributes of tags, computed.
 use Rattle.std.specs.Prelude.{◌≡◌, ℕ, List, [], ◌∷◌, codes, refl, true, false, map}
-use Rattle.html_meaning.specs.Tokens.{Piece, Start, End, Chars, Comment, Doctype, Cut, Token, tokens, Attribute, attributes}
+use Rattle.html_meaning.specs.Tokens.{Piece, Start, End, Chars, Comment, Doctype, Cut, Token, tokens, attribute_pairs}
 
 -- the pieces of a source, without their places
 abbrev pieces : List ℕ → List Piece
 pieces source = map (λ (t : Token). t.piece) (tokens source)
-
--- the attributes in the text behind a tag's name
-abbrev pairs : List ℕ → List (List ℕ × List ℕ)
-pairs attrs = map (λ (a : Attribute). (a.name, a.value)) (attributes 0 attrs)
 
 -- each token with its places
 some_tokens : tokens (codes "<p a=1 A=\"2\">x&lt;<br/><!-->y</P z>") ≡
@@ -120,22 +116,22 @@ not_self_closing = refl
 
 -- attributes
 
-plain_attributes : pairs (codes " a b=c\td = e/f/g") ≡
+plain_attributes : attribute_pairs (codes " a b=c\td = e/f/g") ≡
     (codes "a", []) ∷ (codes "b", codes "c") ∷ (codes "d", codes "e/f/g") ∷ []
 plain_attributes = refl
 
-quoted_attributes : pairs (codes " a='x \"' b = \"/\"c=''") ≡
+quoted_attributes : attribute_pairs (codes " a='x \"' b = \"/\"c=''") ≡
     (codes "a", codes "x \"") ∷ (codes "b", codes "/") ∷ (codes "c", []) ∷ []
 quoted_attributes = refl
 
-equals_sign_in_a_name : pairs (codes " ==a =b=c = =d") ≡ (codes "=", codes "a") ∷ (codes "=b", codes "c") ∷ (codes "=", codes "d") ∷ []
+equals_sign_in_a_name : attribute_pairs (codes " ==a =b=c = =d") ≡ (codes "=", codes "a") ∷ (codes "=b", codes "c") ∷ (codes "=", codes "d") ∷ []
 equals_sign_in_a_name = refl
 
-value_of_nothing : pairs (codes " a=") ≡ (codes "a", []) ∷ []
+value_of_nothing : attribute_pairs (codes " a=") ≡ (codes "a", []) ∷ []
 value_of_nothing = refl
 
-slash_between_attributes : pairs (codes "a/b//c =d") ≡ (codes "a", []) ∷ (codes "b", []) ∷ (codes "c", codes "d") ∷ []
+slash_between_attributes : attribute_pairs (codes "a/b//c =d") ≡ (codes "a", []) ∷ (codes "b", []) ∷ (codes "c", codes "d") ∷ []
 slash_between_attributes = refl
 
-quote_in_a_value : pairs (codes " a=b'c d\"=e") ≡ (codes "a", codes "b'c") ∷ (codes "d\"", codes "e") ∷ []
+quote_in_a_value : attribute_pairs (codes " a=b'c d\"=e") ≡ (codes "a", codes "b'c") ∷ (codes "d\"", codes "e") ∷ []
 quote_in_a_value = refl

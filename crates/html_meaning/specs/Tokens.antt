@@ -1,5 +1,5 @@
 -- The tokens of a source: at each place the first rule that fits (HTML, 13.2.5 "Tokenization", without its errors).
-use Rattle.std.specs.Prelude.{ℕ, zero, suc, ◌+◌, ◌-◌, ◌==◌, min, Bool, false, cond, not, ◌&&◌, ◌||◌, List, [], ◌∷◌, codes, slice_index, take, drop, length}
+use Rattle.std.specs.Prelude.{ℕ, zero, suc, ◌+◌, ◌-◌, ◌==◌, min, Bool, false, cond, not, ◌&&◌, ◌||◌, List, [], ◌∷◌, map, codes, slice_index, take, drop, length}
 use Rattle.std.specs.Bool.{nat_lt}
 use Rattle.html_meaning.specs.Bytes.{is_space, is_letter, lower, begins, begins_like, up_to, is_among}
 use Rattle.html_meaning.specs.Elements.{raw_text_elements, holds_raw_text}
@@ -100,6 +100,10 @@ attributes skip [] = []
 attributes (suc skip) (b ∷ bs) = attributes skip bs
 attributes zero (b ∷ bs) =
     cond (is_between b) (attributes 0 bs) (attribute (b ∷ bs) ∷ attributes (more_in_tag (b ∷ bs)) bs)
+
+-- the name and the value of each of them
+abbrev pub attribute_pairs : List ℕ → List (List ℕ × List ℕ)
+attribute_pairs attrs = map (λ (a : Attribute). (a.name, a.value)) (attributes 0 attrs)
 
 -- a token at the front, and how many bytes it takes
 pub record Found : Type 0 where

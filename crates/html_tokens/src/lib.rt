@@ -1,9 +1,11 @@
 //! The tokens of a page, read in order and lent as slices of its source.
 //!
 //! `html_meaning` says what the tokens of a source are. `scan.rt` finds how far it is to a place, `places.rt` says which
-//! places there are, `rules.rt` has a function for each kind of token, and `tokens.rt` goes from token to token.
+//! places there are, `rules.rt` has a function for each kind of token, `attributes.rt` goes from attribute to attribute of a
+//! tag, and `tokens.rt` from token to token.
 #![tactic(auto)]
 
+mod attributes;
 mod places;
 mod rules;
 mod scan;
@@ -88,6 +90,49 @@ mod tests {
         ];
         for (source, expected) in sources {
             let found = listing(rt.alloc(), source)?;
+            assert_eq!(rt; found.as_str(), expected);
+        }
+        Ok(())
+    }
+
+    // An attribute of the tag that a source begins with, as `name=value`.
+    fn attribute_told(alloc: Global, source: &str, i: usize) -> Result<String, AllocError> {
+        match Tokens::new(source).next() {
+            Some(Token::Start(tag)) => match tag.attr_at(i) {
+                Some((name, value)) => format!(in alloc; "{name}={value}"),
+                None => String::from_str(alloc, "none"),
+            },
+            _ => String::from_str(alloc, "no tag"),
+        }
+    }
+
+    #[test]
+    fn tags_have_these_attributes(rt: HostRuntime) -> Result<(), Fail> {
+        let attributes = [
+            ("<a>", 0, "none"),
+            ("<a b>", 0, "b="),
+            ("<a b>", 1, "none"),
+            ("<a b=c/>", 0, "b=c/"),
+            ("<a b = 'c d'e=\"f'\">", 0, "b=c d"),
+            ("<a b = 'c d'e=\"f'\">", 1, "e=f'"),
+            ("<a ==b =c=d>", 0, "==b"),
+            ("<a ==b =c=d>", 1, "=c=d"),
+            ("<a/b/ /c=>", 1, "c="),
+            ("<a B=1 b=2>", 1, "b=2"),
+            (
+                "<a \u{e9}\u{e9}= '\u{e9}>'\u{e8}=\u{e8}&amp;>",
+                0,
+                "\u{e9}\u{e9}=\u{e9}>",
+            ),
+            (
+                "<a \u{e9}\u{e9}= '\u{e9}>'\u{e8}=\u{e8}&amp;>",
+                1,
+                "\u{e8}=\u{e8}&amp;",
+            ),
+            ("<a b='>", 0, "no tag"),
+        ];
+        for (source, i, expected) in attributes {
+            let found = attribute_told(rt.alloc(), source, i)?;
             assert_eq!(rt; found.as_str(), expected);
         }
         Ok(())

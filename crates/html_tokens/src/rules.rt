@@ -61,8 +61,8 @@ fn cut<'a, P: Place>(place: &P, text: &'a str) -> (&'a str, &'a str)
     text.split_at(up_to(place, text.as_bytes()))
 }
 
-// What stands behind the first bytes, of which the last is ASCII.
-fn behind(text: &str, count: usize) -> &str
+/// What stands behind the first bytes, of which the last is ASCII.
+pub fn behind(text: &str, count: usize) -> &str
     requires within { count ≤ length text.now }
     requires some { 0 < count }
     requires ascii { slice_index text.now (count - 1) < 128 }

@@ -3,7 +3,8 @@
 ghost use Rattle.std.specs.Prelude.{◌≡◌, ◌<◌, ◌≤◌, ◌-◌, length, slice_index, take, drop, suc, true};
 ghost use Rattle.html_meaning.specs.Bytes.{up_to};
 ghost use Rattle.html_meaning.specs.Tokens.{no_space, attribute, to_tag_end, is_self_closing, more_in_tag, with_value};
-ghost use Rattle.html_tokens.specs.Extents.{IsExtent};
+ghost use Rattle.html_tokens.specs.Extents.{AreCuts, IsExtent};
+ghost use Rattle.std.specs.Str.{IsCharBoundary, IsUtf8};
 
 use crate::places::{
     AttributeNameEnd, Place, UnquotedValueEnd, after, byte, is_between, is_quote, is_space,
@@ -74,7 +75,8 @@ impl Place for Quote {
 // The value at a place of an attribute.
 fn value_at(name: usize, bytes: &[u8], from: usize) -> Extent
     requires { from ≤ length bytes.now }
-    ensures { IsExtent result (with_value (take name bytes.now) from (drop from bytes.now)) bytes.now }
+    ensures extent { IsExtent result (with_value (take name bytes.now) from (drop from bytes.now)) bytes.now }
+    ensures cuts { IsUtf8 bytes.now → IsCharBoundary bytes.now name → IsCharBoundary bytes.now from → AreCuts result bytes.now }
 {
     let text = after(bytes, from);
     let quote = byte(text, 0);
@@ -100,7 +102,8 @@ fn value_at(name: usize, bytes: &[u8], from: usize) -> Extent
 /// The attribute at the front.
 pub fn attribute(bytes: &[u8]) -> Extent
     requires { 0 < length bytes.now }
-    ensures { IsExtent result (attribute bytes.now) bytes.now }
+    ensures extent { IsExtent result (attribute bytes.now) bytes.now }
+    ensures cuts { IsUtf8 bytes.now → AreCuts result bytes.now }
 {
     let name = 1 + up_to(&AttributeNameEnd, after(bytes, 1));
     let equals = name + spaces(after(bytes, name));

@@ -1,9 +1,11 @@
-ghost use Rattle.std.specs.Prelude.{◌≡◌, ◌+◌, ◌<◌, ◌^◌, ◌∷◌, [], length, MatchOption, codes, cond};
+ghost use Rattle.std.specs.Prelude.{◌≡◌, ◌+◌, ◌<◌, ◌^◌, ◌∷◌, [], length, MatchOption, codes, cond, Some, None};
+ghost use Rattle.std.specs.List.{slice_get};
 ghost use Rattle.html_meaning.specs.Cover.{Cover};
-ghost use Rattle.html_meaning.specs.Tokens.{tokens, tokens_from, raw_after};
+ghost use Rattle.html_meaning.specs.Tokens.{attribute_pairs, tokens, tokens_from, raw_after};
 ghost use Rattle.html_tokens.specs.Views.{piece_of};
 ghost use Rattle.html_tokens.specs.Seen.{token_of};
 
+use crate::attributes::next_attribute;
 use crate::rules::{Piece, first, holds_raw_text};
 use std::marker::Model;
 
@@ -24,6 +26,27 @@ pub struct Tag<'a> {
     /// Whether a `/` stands directly before the `>` and is no part of a value.
     pub self_closing: bool,
     pub span: Span,
+}
+
+impl<'a> Tag<'a> {
+    /// The name and the value of the attribute number `i`, from 0, as the source spells them: names that repeat count, and
+    /// no character reference is resolved. `None` behind the last one. It takes no memory, and time linear in the length of
+    /// the attributes.
+    pub fn attr_at(&self, i: usize) -> Option<(&'a str, &'a str)>
+        ensures { MatchOption result (slice_get (attribute_pairs self.now.attrs.now) i ≡ None)
+            (λ found. slice_get (attribute_pairs self.now.attrs.now) i ≡ Some (found.0.now, found.1.now)) }
+    {
+        let mut rest = self.attrs;
+        let mut left = i;
+        while let Some(attribute) = next_attribute(rest) {
+            if left == 0 {
+                return Some((attribute.name, attribute.value));
+            }
+            left -= 1;
+            rest = attribute.rest;
+        }
+        None
+    }
 }
 
 /// A token of a source (HTML, 13.2.5 "Tokenization"), whose texts are slices of the source.
