@@ -30,24 +30,28 @@ pub fn after(bytes: &[u8], place: usize) -> &[u8]
     &bytes[place..]
 }
 
+/// ASCII white space: space, tab, LF, FF or CR.
 pub fn is_space(b: u8) -> bool
     ensures { result ≡ is_space b }
 {
     matches!(b, b' ' | b'\t' | b'\n' | 12 | b'\r')
 }
 
+/// An ASCII letter.
 pub fn is_letter(b: u8) -> bool
     ensures { result ≡ is_letter b }
 {
     matches!(b, b'A'..=b'Z' | b'a'..=b'z')
 }
 
+/// A byte between attributes: space or `/`.
 pub fn is_between(b: u8) -> bool
     ensures { result ≡ is_between b }
 {
     is_space(b) || b == b'/'
 }
 
+/// A quote around a value: `"` or `'`.
 pub fn is_quote(b: u8) -> bool
     ensures { result ≡ is_quote b }
 {
@@ -72,7 +76,7 @@ pub fn begins_like(text: &[u8], bytes: &[u8]) -> bool
     front.eq_ignore_ascii_case(text)
 }
 
-/// A name ends: space, `/` or `>`.
+/// The name of a tag ends: space, `/` or `>`.
 pub fn ends_name(rest: &[u8]) -> bool
     ensures { result ≡ ends_name rest.now }
 {
@@ -82,18 +86,21 @@ pub fn ends_name(rest: &[u8]) -> bool
     }
 }
 
+/// A start tag begins: `<` and a letter.
 pub fn is_start(rest: &[u8]) -> bool
     ensures { result ≡ is_start rest.now }
 {
     byte(rest, 0) == b'<' && is_letter(byte(rest, 1))
 }
 
+/// An end tag begins: `</` and a letter.
 pub fn is_end(rest: &[u8]) -> bool
     ensures { result ≡ is_end rest.now }
 {
     begins(b"</", rest) && is_letter(byte(rest, 2))
 }
 
+/// A comment begins that ends at the first `>`: `<!`, `<?`, or `</` and a byte that is no letter.
 pub fn is_bogus_comment(rest: &[u8]) -> bool
     ensures { result ≡ is_bogus_comment rest.now }
 {
@@ -102,7 +109,7 @@ pub fn is_bogus_comment(rest: &[u8]) -> bool
         || (begins(b"</", rest) && rest.len() > 2 && !is_letter(byte(rest, 2)))
 }
 
-/// The end of raw text: `</`, the name, and the end of a name.
+/// The raw text of the element with this name ends: `</`, the name, the case of letters ignored, and the end of a name.
 pub fn ends_raw_text(name: &[u8], rest: &[u8]) -> bool
     ensures { result ≡ ends_raw_text name.now rest.now }
 {

@@ -10,8 +10,8 @@ ghost use Rattle.html_meaning.specs.Bytes.{is_among, lower};
 ghost use Rattle.html_meaning.specs.Elements.{raw_text_elements, holds_raw_text};
 
 use crate::places::{
-    Angle, CommentEnd, NameEnd, Opening, Place, RawTextEnd, begins, begins_like, is_bogus_comment,
-    is_end, is_start,
+    Angle, CommentEnd, NameEnd, Opening, Place, RawTextEnd, begins, begins_like, ends_raw_text,
+    is_bogus_comment, is_end, is_start,
 };
 use crate::scan::{is_self_closing, to_tag_end, up_to};
 
@@ -103,7 +103,7 @@ fn behind_two(text: &str) -> &str
     if text.len() < 2 { "" } else { behind(text, 2) }
 }
 
-// A comment by its dashes: up to `-->`.
+// A comment between `<!--` and the first `-->`, which may share the dashes of the `<!--`.
 fn comment(source: &str) -> Found<'_>
     requires { IsTrue (begins (codes "<!--") source.now) }
     ensures { Reads result (comment source.now) source.now }
@@ -118,7 +118,7 @@ fn comment(source: &str) -> Found<'_>
     }
 }
 
-// A comment up to `>`.
+// A comment of any other form, up to and with the first `>`.
 fn bogus_comment(source: &str) -> Found<'_>
     requires { IsTrue (is_bogus_comment source.now) }
     ensures { Reads result (bogus_comment source.now) source.now }
@@ -131,6 +131,7 @@ fn bogus_comment(source: &str) -> Found<'_>
     }
 }
 
+// A doctype, up to and with the first `>`, or up to the end.
 fn doctype(source: &str) -> Found<'_>
     ensures { Reads result (doctype source.now) source.now }
 {
@@ -140,6 +141,7 @@ fn doctype(source: &str) -> Found<'_>
     }
 }
 
+// Text, up to where something else begins.
 fn text(source: &str) -> Found<'_>
     ensures { Reads result (text source.now) source.now }
 {
@@ -169,12 +171,14 @@ fn raw_text<'a>(name: &str, source: &'a str) -> Found<'a>
     }
 }
 
+// The text of this element is raw, so that no character reference counts in it.
 fn is_raw_text_element(name: &str) -> bool
     ensures { result ≡ is_among (lower name.now) raw_text_elements }
 {
     name.eq_ignore_ascii_case("script") || name.eq_ignore_ascii_case("style")
 }
 
+/// Up to its own end tag, an element of this name has text alone.
 pub fn holds_raw_text(name: &str) -> bool
     ensures { result ≡ holds_raw_text (lower name.now) }
 {
@@ -201,6 +205,7 @@ fn tag(text: &str) -> Option<Whole<'_>>
     }
 }
 
+// An end tag, or what is left where no `>` ends it.
 fn end_tag(source: &str) -> Found<'_>
     requires { IsTrue (is_end source.now) }
     ensures { Reads result (tag (λ name attrs closing. meant.End name) 2 source.now) source.now }
@@ -223,6 +228,7 @@ fn end_tag(source: &str) -> Found<'_>
     }
 }
 
+// A start tag, or what is left where no `>` ends it.
 fn start_tag(source: &str) -> Found<'_>
     requires { IsTrue (is_start source.now) }
     ensures { Reads result (tag meant.Start 1 source.now) source.now }
@@ -250,7 +256,7 @@ fn start_tag(source: &str) -> Found<'_>
 fn begins_raw_text(name: &[u8], bytes: &[u8]) -> bool
     ensures { result ≡ (nat_lt 0 (length name.now) && nat_lt 0 (up_to (ends_raw_text name.now) bytes.now)) }
 {
-    !name.is_empty() && up_to(&RawTextEnd { name }, bytes) > 0
+    !name.is_empty() && !bytes.is_empty() && !ends_raw_text(name, bytes)
 }
 
 /// The token at the front, by the first rule that fits.

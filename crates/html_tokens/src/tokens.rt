@@ -79,7 +79,7 @@ pub enum Token<'a> {
     },
 }
 
-// A token, and what stands behind it.
+// A token, and what stands behind it: its place, and the name of the element whose raw text begins there.
 #[derive(Clone, Copy)]
 struct Next<'a> {
     token: Token<'a>,
@@ -88,6 +88,7 @@ struct Next<'a> {
     rest: &'a str,
 }
 
+// The token of a piece at this place.
 fn with_span<'a>(piece: Piece<'a>, span: Span) -> Token<'a>
     ensures { token_of result ≡ record { piece = piece_of piece.entry; from = span.from; to = span.to } }
 {
