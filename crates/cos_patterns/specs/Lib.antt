@@ -1,0 +1,7 @@
+pub mod CrateMaker
+pub mod Found
+pub mod ListedMaker
+pub mod Makers
+pub mod Plan
+pub mod Tables
+pub mod Written
