@@ -1,5 +1,5 @@
--- From a regex to what the grammar reads in its text.
-use Rattle.std.proofs.Common.{◌≡◌, ◌≢◌, ℕ, ◌<◌, ◌≤◌, inl, inr, true, get_or, length, Option, None, Some, is_some, IsSomeAnd, refl, sym}
+-- From a compiled pattern to what the grammar reads in its text.
+use Rattle.std.proofs.Common.{◌≡◌, ◌≢◌, ℕ, ◌<◌, ◌≤◌, inl, inr, true, List, get_or, length, Option, None, Some, is_some, IsSomeAnd, refl, sym}
 use Rattle.regex_hir.specs.Re.{Re}
 use Rattle.regex_hir.specs.Find.{find_str}
 use Rattle.regex_syntax.specs.Brackets.{Nested}
@@ -11,37 +11,41 @@ use Rattle.regex_syntax.specs.declared.error.ErrorKind.TheVariants.{OutOfMemory}
 use Rattle.regex.specs.Strings.{regex_pattern}
 use Rattle.regex.specs.declared.string.regex.Regex.{Regex}
 use Rattle.regex.proofs.ForCallers.{is_match_alike}
-use Rattle.cos_patterns.specs.Found.{Text, config_of, read_as, is_read, found_by, pattern_found, IsPatternOf, IsUnreadable}
+use Rattle.cos_patterns.specs.Found.{config_of, read_as, is_read, found_by, pattern_found, IsPatternOf, IsUnreadable}
 use Rattle.cos_patterns.specs.declared.written.Written.{Written}
 use Rattle.cos_patterns.specs.Written.{is_same}
 use Rattle.cos_patterns.proofs.Places.{same_is}
 
-module _ (text : Text) (bytes : (k : ℕ) → get_or text k 0 < 256) where
-  alike : (a : Re) (most : ℕ) (names : Names) (o : Option (Nested Re × Names)) →
-      IsSomeAnd o (λ (re, found). (re.depth ≤ most) × SameCaptures a re.value × (names ≡ found) × (group_count a ≤ length names)) →
-      is_some (find_str a text 0) ≡ found_by o text
-  alike a most names None h = absurd h
-  alike a most names (Some p) h = is_match_alike h.1 text bytes true 0
+-- in a text of bytes a compiled pattern is found where what it was read as is found
+module _ (text : List ℕ) (bytes : (k : ℕ) → get_or text k 0 < 256) where
+  alike : (compiled : Re) (most : ℕ) (names : Names) (o : Option (Nested Re × Names)) →
+      IsSomeAnd o (λ (pattern, found). (pattern.depth ≤ most) × SameCaptures compiled pattern.value × (names ≡ found) × (group_count compiled ≤ length names)) →
+      is_some (find_str compiled text 0) ≡ found_by o text
+  alike compiled most names None is = absurd is
+  alike compiled most names (Some p) is = is_match_alike is.1 text bytes true 0
 
-  pub found_is : (body : Text) (flags : ℕ) (r : Regex) → IsPatternOf body flags r →
-      is_some (find_str (regex_pattern r) text 0) ≡ pattern_found body flags text
+  pub found_is : (body : List ℕ) (flags : ℕ) (regex : Regex) → IsPatternOf body flags regex →
+      is_some (find_str (regex_pattern regex) text 0) ≡ pattern_found body flags text
   unfolding Reads read_as
-  found_is body flags r is = alike (regex_pattern r) _ _ (read_as body flags) (rw (is.source, is.config) at is.is_read)
+  found_is body flags regex is = alike (regex_pattern regex) _ _ (read_as body flags) (rw (is.source, is.config) at is.read)
 
--- what a pattern was made of is read
-reads : (o : Option (Nested Re × Names)) (P : Nested Re × Names → Type 0) → IsSomeAnd o P → is_some o ≡ true
-reads None P h = absurd h
-reads (Some p) P h = refl
+-- where something is so, there is something
+there_is : (o : Option (Nested Re × Names)) (P : Nested Re × Names → Type 0) → IsSomeAnd o P → is_some o ≡ true
+there_is None P is = absurd is
+there_is (Some p) P is = refl
 
-pub pattern_reads : (body : Text) (flags : ℕ) (r : Regex) → IsPatternOf body flags r → is_read body flags ≡ true
+-- the grammar reads the text of each compiled pattern
+pub pattern_reads : (body : List ℕ) (flags : ℕ) (regex : Regex) → IsPatternOf body flags regex → is_read body flags ≡ true
 unfolding Reads read_as
-pattern_reads body flags r is = reads (read_as body flags) _ (rw (is.source, is.config) at is.is_read)
+pattern_reads body flags regex is = there_is (read_as body flags) _ (rw (is.source, is.config) at is.read)
 
-pub same_reads : (a b : Written) (r : Regex) → IsPatternOf a.body a.flags r → is_same a b ≡ true → is_read b.body b.flags ≡ true
-same_reads a b r is same = rw (sym (same_is a b same)) (pattern_reads a.body a.flags r is)
+-- and so each text that is the same
+pub same_reads : (a b : Written) (regex : Regex) → IsPatternOf a.body a.flags regex → is_same a b ≡ true → is_read b.body b.flags ≡ true
+same_reads a b regex is same = rw (sym (same_is a b same)) (pattern_reads a.body a.flags regex is)
 
-pub unreadable_is : (body : Text) (flags : ℕ) (kind : ErrorKind) → Refuses (config_of flags) body kind → kind ≢ OutOfMemory → IsUnreadable body flags
+-- a syntax error that isn't want of memory says that the text is unreadable
+pub unreadable_is : (body : List ℕ) (flags : ℕ) (kind : ErrorKind) → Refuses (config_of flags) body kind → kind ≢ OutOfMemory → IsUnreadable body flags
 unfolding Refuses read_as
-unreadable_is body flags kind (inl h) other = absurd (other h)
-unreadable_is body flags kind (inr (inl h)) other = inl h
-unreadable_is body flags kind (inr (inr h)) other = inr h.1
+unreadable_is body flags kind (inl memory) other = absurd (other memory)
+unreadable_is body flags kind (inr (inl nothing)) other = inl nothing
+unreadable_is body flags kind (inr (inr deep)) other = inr deep.1

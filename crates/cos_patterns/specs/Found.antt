@@ -11,10 +11,7 @@ use Rattle.regex_syntax.specs.Verdict.{default_config, default_flags}
 use Rattle.regex.specs.Strings.{regex_source, regex_config, IsReadFromSource}
 use Rattle.regex.specs.declared.string.regex.Regex.{Regex}
 
-abbrev pub Text : Type 0
-Text = List ℕ
-
--- 1 for i, 2 for m, 4 for s; the other options are those of `Regex::new`
+-- flags are a sum of 1 for i, 2 for m and 4 for s; the other flags are those that `Regex::new` has
 abbrev pub flags_of : ℕ → Flags
 flags_of flags = record default_flags {
   case_insensitive = flags % 2 == 1;
@@ -22,31 +19,33 @@ flags_of flags = record default_flags {
   dot_matches_new_line = flags / 4 % 2 == 1;
 }
 
+-- the options under which a pattern is read: nothing is set but the flags
 abbrev pub config_of : ℕ → Config
 config_of flags = record default_config { flags = flags_of flags }
 
--- what the grammar reads in a text, with how deep it nests
-unfoldable pub read_as : Text → ℕ → Option (Nested Re × Names)
+-- the pattern that the grammar reads in a text under flags, with how deep it nests and the names of its groups
+unfoldable pub read_as : List ℕ → ℕ → Option (Nested Re × Names)
 read_as body flags = read (config_of flags) (chars body)
 
 -- the grammar reads a pattern in the text
-abbrev pub is_read : Text → ℕ → Bool
+abbrev pub is_read : List ℕ → ℕ → Bool
 is_read body flags = is_some (read_as body flags)
 
-abbrev pub found_by : Option (Nested Re × Names) → Text → Bool
+-- what was read stands somewhere in the text; where nothing was read, nothing is found
+abbrev pub found_by : Option (Nested Re × Names) → List ℕ → Bool
 found_by None text = false
-found_by (Some p) text = is_some (find_str p.0.value text 0)
+found_by (Some pattern) text = is_some (find_str pattern.0.value text 0)
 
--- the pattern is found in the text
-abbrev pub pattern_found : Text → ℕ → Text → Bool
+-- the pattern of this body and these flags stands somewhere in the text
+abbrev pub pattern_found : List ℕ → ℕ → List ℕ → Bool
 pattern_found body flags text = found_by (read_as body flags) text
 
--- the grammar reads nothing, or what nests deeper than the limit of `regex`
-abbrev pub IsUnreadable : Text → ℕ → Type 0
-IsUnreadable body flags = (read_as body flags ≡ None) ⊎ IfSome (read_as body flags) (λ p. 250 < p.0.depth)
+-- the grammar reads nothing, or what nests deeper than the 250 levels that `regex` allows
+abbrev pub IsUnreadable : List ℕ → ℕ → Type 0
+IsUnreadable body flags = (read_as body flags ≡ None) ⊎ IfSome (read_as body flags) (λ pattern. 250 < pattern.0.depth)
 
--- the regex is what the grammar reads in the text under the flags
-pub record IsPatternOf (body : Text) (flags : ℕ) (r : Regex) : Type 0 where
-  pub source : regex_source r ≡ body
-  pub config : regex_config r ≡ config_of flags
-  pub is_read : IsReadFromSource r
+-- the compiled pattern is what the grammar reads in this body under these flags
+pub record IsPatternOf (body : List ℕ) (flags : ℕ) (regex : Regex) : Type 0 where
+  pub source : regex_source regex ≡ body
+  pub config : regex_config regex ≡ config_of flags
+  pub read : IsReadFromSource regex

@@ -1,4 +1,5 @@
 pub mod CrateMaker
+pub mod Example
 pub mod Found
 pub mod ListedMaker
 pub mod Makers
