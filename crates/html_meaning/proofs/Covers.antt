@@ -1,10 +1,10 @@
 -- Each token takes at least one byte and stays within the source, so that the tokens cover it.
-use Rattle.std.proofs.Common.{◌≡◌, ℕ, zero, suc, ◌+◌, ◌-◌, ◌<◌, ◌≤◌, Bool, true, false, cond, ◌&&◌, ◌||◌, List, [], ◌∷◌, length, drop, take, refl, arith, ap, ◌∙◌, subst, nat_lt, codes}
+use Rattle.std.proofs.Common.{◌≡◌, ℕ, zero, suc, ◌+◌, ◌-◌, ◌<◌, ◌≤◌, Bool, true, false, cond, ◌||◌, List, [], ◌∷◌, length, drop, take, refl, arith, ap, ◌∙◌, subst, nat_lt, codes}
 use Rattle.std.proofs.lemmas.Bool.{cond_both, and_parts, ltb-true, or_from}
 use Rattle.std.proofs.lemmas.List.{length-drop, length-take}
 use Rattle.std.proofs.lemmas.Slice.Eq.{bytes_eq-Decides}
 use Rattle.html_meaning.specs.Bytes.{begins, begins_like, up_to}
-use Rattle.html_meaning.specs.Tokens.{Piece, Start, End, Found, first, tag, text, opens, is_start, is_end, is_bogus_comment, is_angle, ends_raw_text, ends_name, to_tag_end, raw_after, tokens_from, tokens, through}
+use Rattle.html_meaning.specs.Tokens.{Piece, Start, End, Found, first, tag, text, opens, is_start, is_end, is_bogus_comment, is_angle, ends_raw_text, begins_raw_text, ends_name, to_tag_end, raw_after, tokens_from, tokens, through}
 use Rattle.html_meaning.specs.Cover.{Cover}
 
 pub up_to-within : (here : List ℕ → Bool) (bytes : List ℕ) → up_to here bytes ≤ length bytes
@@ -36,7 +36,7 @@ pub first_takes : (raw : List ℕ) (b : ℕ) (bs : List ℕ) → Takes (b ∷ bs
 first_takes raw b bs =
     let bytes = b ∷ bs in
     let some : 0 < length (b ∷ bs) = omega arith in
-    cond_both (nat_lt 0 (length raw) && nat_lt 0 (up_to (ends_raw_text raw) bytes)) _ _ (Takes bytes)
+    cond_both (begins_raw_text raw bytes) _ _ (Takes bytes)
     (λ e. (ltb-true _ _ (and_parts _ _ e).1, up_to-within (ends_raw_text raw) bytes))
     (λ _. cond_both (begins (codes "<!--") bytes) _ _ (Takes bytes)
     (λ e. (let l = begins_long (codes "<!--") bytes e in (omega arith, omega (arith, l, length-drop 2 bytes))))

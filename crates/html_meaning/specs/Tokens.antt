@@ -187,11 +187,15 @@ raw_text name bytes =
       size = up_to (ends_raw_text name) bytes;
     }
 
+-- raw text of the element with this name stands here, and isn't empty; with no name there is none
+abbrev pub begins_raw_text : List ℕ → List ℕ → Bool
+begins_raw_text name bytes = nat_lt 0 (length name) && nat_lt 0 (up_to (ends_raw_text name) bytes)
+
 -- the token at the front of what is left, by the first rule that fits; `raw` is the name of the element whose raw text
 -- begins here, empty where there is none, and raw text that is empty is no token
 abbrev pub first : List ℕ → List ℕ → Found
 first raw bytes =
-    cond (nat_lt 0 (length raw) && nat_lt 0 (up_to (ends_raw_text raw) bytes)) (raw_text raw bytes)
+    cond (begins_raw_text raw bytes) (raw_text raw bytes)
     (cond (begins (codes "<!--") bytes) (comment bytes)
     (cond (begins_like (codes "<!doctype") bytes) (doctype bytes)
     (cond (is_bogus_comment bytes) (bogus_comment bytes)

@@ -3,7 +3,7 @@
 ghost use Rattle.std.specs.Prelude.{◌≡◌, ◌<◌, ◌≤◌, ◌-◌, ◌+◌, IsTrue, length, slice_index, take, drop, codes, true, false, MatchOption, [], ◌∷◌, ◌&&◌};
 ghost use Rattle.std.specs.Bool.{nat_lt};
 ghost use Rattle.html_meaning.specs.Bytes.{begins, begins_like, up_to};
-ghost use Rattle.html_meaning.specs.Tokens.{comment, bogus_comment, doctype, tag, text, raw_text, first, is_angle, ends_comment, is_bogus_comment, is_start, is_end, ends_raw_text, to_tag_end, is_self_closing};
+ghost use Rattle.html_meaning.specs.Tokens.{comment, bogus_comment, doctype, tag, text, raw_text, first, is_angle, ends_comment, is_bogus_comment, is_start, is_end, begins_raw_text, ends_raw_text, to_tag_end, is_self_closing};
 ghost use Rattle.html_tokens.specs.Views.{Reads, IsTag, is_whole};
 ghost use Rattle.html_meaning.specs.Tokens as meant;
 ghost use Rattle.html_meaning.specs.Bytes.{is_among, lower};
@@ -254,7 +254,7 @@ fn start_tag(source: &str) -> Found<'_>
 
 // Raw text of the element with this name stands at the front, and isn't empty.
 fn begins_raw_text(name: &[u8], bytes: &[u8]) -> bool
-    ensures { result ≡ (nat_lt 0 (length name.now) && nat_lt 0 (up_to (ends_raw_text name.now) bytes.now)) }
+    ensures { result ≡ begins_raw_text name.now bytes.now }
 {
     !name.is_empty() && !bytes.is_empty() && !ends_raw_text(name, bytes)
 }
