@@ -1,3 +1,4 @@
-mod Agreement
-mod Places
+pub mod Agreement
+pub mod Numbers
+pub mod Places
 mod Readings

@@ -5,13 +5,13 @@ use Rattle.regex_hir.specs.Looks.{holds, holds_between}
 use Rattle.regex_hir.specs.Re.{attempt}
 use Rattle.regex_hir.specs.Text.{is_boundary, has_bytes_at, byte_before}
 use Rattle.regex.proofs.OnLiterals.{regex_on_literals}
-use Rattle.cos_patterns.specs.declared.errors.MakeError.TheVariants.{Unreadable, TooLarge, NoMemory}
+use Rattle.cos_patterns.specs.declared.errors.MakeError.TheVariants.{Unreadable, TooLarge}
 use Rattle.cos_patterns.specs.declared.written.Asked.{Asked}
 use Rattle.cos_patterns.specs.declared.written.Asked.TheVariants.{Pattern, Address}
 use Rattle.cos_patterns.specs.declared.written.Written.{Written}
 use Rattle.cos_patterns.specs.Found.{read_as, is_read, pattern_found}
 use Rattle.cos_patterns.specs.Makers.{large_after, unread_after}
-use Rattle.cos_patterns.specs.Tables.{patterns_in, is_noted, with_pattern}
+use Rattle.cos_patterns.specs.Tables.{patterns_in, is_noted, with_pattern, found_at}
 use Rattle.cos_patterns.specs.Written.{written, is_same, is_in, place_of}
 
 -- what an example unfolds to read a pattern that is written out, and to find it
@@ -89,3 +89,10 @@ noted = refl
 
 put_again : with_pattern (written (codes "a") 1) both ≡ both
 put_again = refl
+
+found_by_number : found_at both 0 (codes "cat") ≡ true
+unfolding found_on_literals
+found_by_number = refl
+
+no_such_number : found_at both 2 (codes "cat") ≡ false
+no_such_number = refl

@@ -23,9 +23,9 @@ pub record Agrees (table : Noted) (refused_large : List Asked) (refused_unread :
   pub large : (pattern : Written) → is_in pattern table.large ≡ is_in pattern (patterns_in refused_large)
   pub unread : (pattern : Written) → is_in pattern table.unread ≡ is_in pattern refused_unread
 
--- no pattern is noted as refused in two ways
-abbrev pub IsRefusedOneWay : Noted → Type 0
-IsRefusedOneWay table = (pattern : Written) → is_in pattern table.large && is_in pattern table.unread ≡ false
+-- no pattern is noted as refused in both ways, for size and as unreadable
+abbrev pub IsRefusedOneWay : List Written → List Written → Type 0
+IsRefusedOneWay large unread = (pattern : Written) → is_in pattern large && is_in pattern unread ≡ false
 
 -- the table has the answer for this pattern already
 abbrev pub is_noted : Written → Noted → Bool
@@ -35,7 +35,7 @@ is_noted pattern table = is_in pattern table.patterns || (is_in pattern table.la
 abbrev pub with_pattern : Written → List Written → List Written
 with_pattern pattern patterns = if is_in pattern patterns then patterns else patterns ++ pattern ∷ []
 
--- the pattern of this number is found in the text; no number that was given finds nothing
+-- the pattern of this number is found in the text; a number that wasn't given finds nothing
 abbrev pub found_at : List Written → ℕ → List ℕ → Bool
 found_at patterns number text =
     unwrap_or (option_map (λ pattern. pattern_found pattern.body pattern.flags text) (slice_get patterns number)) false

@@ -1,4 +1,9 @@
-//! Patterns of `regex`, by their text and flags.
+//! Patterns of `regex`, by their text and flags, and addresses of `url`.
+//!
+//! A `Maker` makes both of texts, and tells which it refused: `CrateMaker` asks the crates, and `ListedMaker` also
+//! refuses where a test wants it. A `PatternTable` holds patterns by number and asks its maker for no text twice.
+//! `specs/Found.antt` says when a pattern is found in a text, `Makers.antt` what an answer of a maker does to its lists,
+//! and `Tables.antt` when a table agrees with a maker. `proofs/Numbers.antt` and `Agreement.antt` have laws for callers.
 #![tactic(auto)]
 
 mod crate_maker;

@@ -11,8 +11,8 @@ use url::Url;
 
 /// Makes patterns and addresses of texts.
 ///
-/// What it refuses as unreadable, only the grammar or the limit on nesting explains. What it refuses for size is told
-/// by its lists alone.
+/// A text is unreadable only where the grammar reads nothing in it, or a pattern that nests too deep. Which texts are
+/// refused for size only the lists tell.
 pub trait Maker {
     /// The texts that it refused for size, in order.
     ghost large: { Self → List Asked };

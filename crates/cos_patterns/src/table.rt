@@ -27,7 +27,7 @@ impl Model for PatternTable {
 
     ghost view = { λ table. record { patterns = table.patterns.items; large = table.large.items; unread = table.unread.items } };
 
-    ghost invariant = { λ table. IsRefusedOneWay (record { patterns = table.patterns.items; large = table.large.items; unread = table.unread.items }) };
+    ghost invariant = { λ table. IsRefusedOneWay table.large.items table.unread.items };
 }
 
 impl PatternTable {
