@@ -64,45 +64,54 @@ def run(program, folder, words):
     return seconds, usage.ru_maxrss * 1024, process.returncode, output.stat().st_size
 
 
+def measure(program, folder, name, words):
+    """Runs the program, prints a line of the table, and answers its seconds; none where the run failed."""
+    size = Path(folder, "page").stat().st_size
+    seconds, peak, status, output = run(program, folder, words)
+    failure = "" if status == 0 else f"  status {status}"
+    print(f"{name:<38}{size:>12,}{seconds:>9.2f}{peak / 1e6:>9.0f}{peak / size:>10.1f}{output:>12,}{failure}")
+    return seconds if status == 0 else None
+
+
+def compare(name, first, second):
+    """Prints how many times as long the second run took; whether both ran."""
+    if first is None or second is None:
+        return False
+    print(f"{name:<38}{second / first:>21.2f} times as long")
+    return True
+
+
+def pages(program, folder, name, make):
+    """A page, and one two and a half times as large."""
+    seconds = []
+    for nodes in (200_000, 500_000):
+        write(Path(folder, "page"), make(nodes))
+        seconds.append(measure(program, folder, f"{name}, {nodes:,} nodes, 50 filters", ["apply", "list", "page"]))
+    return compare(f"{name}, 500,000 for 200,000 nodes", *seconds)
+
+
+def scripts(program, folder, nodes):
+    """A script, and one with four times as many lines."""
+    seconds = []
+    for lines in (500, 2_000):
+        write(Path(folder, "script"), script(lines, nodes))
+        name = f"{lines:,} lines, {nodes:,} nodes, 10 filters"
+        seconds.append(measure(program, folder, name, ["apply", "list", "page", "script"]))
+    return compare("2,000 for 500 lines", *seconds)
+
+
 def main():
     parser = argparse.ArgumentParser(description=__doc__, formatter_class=argparse.RawDescriptionHelpFormatter)
     parser.add_argument("--program", default=str(TOP / "crates/cosmetic_top/out/cosmetic_top"))
     program = str(Path(parser.parse_args().program).resolve())
-    print(f"{'input':<34}{'page bytes':>12}{'seconds':>9}{'peak MB':>9}{'per byte':>10}{'output':>12}")
-    failed = False
+    print(f"{'input':<38}{'page bytes':>12}{'seconds':>9}{'peak MB':>9}{'per byte':>10}{'output':>12}")
     with tempfile.TemporaryDirectory() as folder:
         Path(folder, "list").write_text(filters(50))
-        for name, make in (("flat", flat_page), ("nested", nested_page)):
-            times = []
-            for nodes in (200_000, 500_000):
-                page = Path(folder, "page")
-                write(page, make(nodes))
-                size = page.stat().st_size
-                seconds, peak, status, output = run(program, folder, ["apply", "list", "page"])
-                times.append(seconds)
-                failed |= status != 0
-                print(
-                    f"{f'{name}, {nodes:,} nodes, 50 filters':<34}{size:>12,}{seconds:>9.2f}{peak / 1e6:>9.0f}"
-                    f"{peak / size:>10.1f}{output:>12,}" + ("" if status == 0 else f"  status {status}")
-                )
-            print(f"{f'{name}, 500,000 for 200,000 nodes':<34}{times[1] / times[0]:>33.2f} times as long")
-        nodes = 20_000
+        ran = [pages(program, folder, "flat", flat_page), pages(program, folder, "nested", nested_page)]
         Path(folder, "list").write_text(filters(10))
-        page = Path(folder, "page")
-        write(page, flat_page(nodes))
-        size = page.stat().st_size
-        times = []
-        for lines in (500, 2_000):
-            write(Path(folder, "script"), script(lines, nodes))
-            seconds, peak, status, output = run(program, folder, ["apply", "list", "page", "script"])
-            times.append(seconds)
-            failed |= status != 0
-            print(
-                f"{f'{lines:,} lines, 20,000 nodes, 10 filters':<34}{size:>12,}{seconds:>9.2f}{peak / 1e6:>9.0f}"
-                f"{peak / size:>10.1f}{output:>12,}" + ("" if status == 0 else f"  status {status}")
-            )
-        print(f"{'2,000 for 500 lines':<34}{times[1] / times[0]:>33.2f} times as long")
-    return 1 if failed else 0
+        write(Path(folder, "page"), flat_page(20_000))
+        ran.append(scripts(program, folder, 20_000))
+    return 0 if all(ran) else 1
 
 
 sys.exit(main())
