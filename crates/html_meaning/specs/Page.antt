@@ -2,10 +2,10 @@
 use Rattle.std.specs.Prelude.{ℕ, suc, Bool, false, cond, not, ◌&&◌, ◌||◌, List, [], ◌∷◌, ◌++◌, map, filter, length, Option, Some, None}
 use Rattle.std.specs.Bool.{nat_lt, nat_le}
 use Rattle.std.specs.List.{list_any, list_all}
-use Rattle.std.specs.Str.{bytes_eq}
+use Rattle.std.specs.Str.{bytes_eq, str_to_ascii_lowercase}
 use Rattle.page_tree.specs.Forest.{Content, element, text, comment, empty, node, Tree}
 use Rattle.page_tree.specs.Edits.{appended}
-use Rattle.html_meaning.specs.Bytes.{lower, is_among}
+use Rattle.html_meaning.specs.Bytes.{is_among}
 use Rattle.html_meaning.specs.Elements.{implied_ends, has_content}
 use Rattle.html_meaning.specs.Tokens.{Piece, Start, End, Chars, Comment, Doctype, Cut, Token, attribute_pairs, tokens}
 use Rattle.html_meaning.specs.References.{resolved}
@@ -19,8 +19,8 @@ pub data Role : Type 0 where
   Nothing : Role
 
 abbrev pub role_of : Piece → Role
-role_of (Start name attrs self_closing) = Opens (lower name) (has_content (lower name) self_closing)
-role_of (End name) = Ends (lower name)
+role_of (Start name attrs self_closing) = Opens (str_to_ascii_lowercase name) (has_content (str_to_ascii_lowercase name) self_closing)
+role_of (End name) = Ends (str_to_ascii_lowercase name)
 role_of (Chars bytes raw) = Leaf
 role_of (Comment bytes) = Leaf
 role_of Doctype = Nothing
@@ -65,11 +65,11 @@ firsts seen (a ∷ attrs) = cond (is_among a.0 seen) (firsts seen attrs) (a ∷ 
 
 -- the attributes of an element, from the text between its tag's name and `>`: names in lower case, references resolved
 abbrev pub element_attributes : List ℕ → List (List ℕ × List ℕ)
-element_attributes attrs = firsts [] (map (λ a. (lower a.0, resolved 0 a.1)) (attribute_pairs attrs))
+element_attributes attrs = firsts [] (map (λ a. (str_to_ascii_lowercase a.0, resolved 0 a.1)) (attribute_pairs attrs))
 
 -- the node that a token makes
 abbrev pub content_of : Piece → Option Content
-content_of (Start name attrs self_closing) = Some (element (lower name) (element_attributes attrs))
+content_of (Start name attrs self_closing) = Some (element (str_to_ascii_lowercase name) (element_attributes attrs))
 content_of (End name) = None
 content_of (Chars bytes raw) = Some (text (cond raw bytes (resolved 0 bytes)))
 content_of (Comment bytes) = Some (comment bytes)

@@ -1,4 +1,5 @@
 -- Character references in texts and attribute values.
+use Rattle.std.specs.Char.{is_ascii_digit, is_ascii_hexdigit}
 use Rattle.std.specs.Prelude.{ℕ, zero, suc, ◌+◌, ◌-◌, ◌*◌, ◌==◌, Bool, cond, not, ◌&&◌, ◌||◌, List, [], ◌∷◌, ◌++◌, codes, Option, Some, None, take, drop, length, encode_utf8, slice_index}
 use Rattle.std.specs.Bool.{nat_lt}
 use Rattle.std.specs.Int.{is_in_range}
@@ -24,15 +25,9 @@ named bytes (n ∷ ns) = cond (begins n.0 bytes) (Some (record { stands_for = n.
 abbrev pub character : ℕ → ℕ
 character n = cond (n == 0 || is_in_range 55296 57343 n || nat_lt 1114111 n) 65533 n
 
-abbrev pub is_digit : ℕ → Bool
-is_digit b = is_in_range 48 57 b
-
-abbrev pub is_hex_digit : ℕ → Bool
-is_hex_digit b = is_digit b || is_in_range 65 70 b || is_in_range 97 102 b
-
 -- the value of a hexadecimal digit
 abbrev pub digit_value : ℕ → ℕ
-digit_value b = cond (is_digit b) (b - 48) (cond (nat_lt b 97) (b - 55) (b - 87))
+digit_value b = cond (is_ascii_digit b) (b - 48) (cond (nat_lt b 97) (b - 55) (b - 87))
 
 -- the number that digits spell, behind those that spell `so_far`
 abbrev pub number : ℕ → ℕ → List ℕ → ℕ
@@ -50,8 +45,8 @@ numeric base is_of before bytes =
 -- the reference at the front
 abbrev pub reference : List ℕ → Option Reference
 reference bytes =
-    cond (begins (codes "&#x") bytes || begins (codes "&#X") bytes) (numeric 16 is_hex_digit 3 bytes)
-    (cond (begins (codes "&#") bytes) (numeric 10 is_digit 2 bytes) (named bytes named_references))
+    cond (begins (codes "&#x") bytes || begins (codes "&#X") bytes) (numeric 16 is_ascii_hexdigit 3 bytes)
+    (cond (begins (codes "&#") bytes) (numeric 10 is_ascii_digit 2 bytes) (named bytes named_references))
 
 -- the character of a reference, or the byte where there is none, and then the rest
 abbrev pub with_reference : Option Reference → ℕ → (ℕ → List ℕ) → List ℕ

@@ -1,7 +1,9 @@
 -- The tokens of a source: at each place the first rule that fits (HTML, 13.2.5 "Tokenization", without its errors).
+use Rattle.std.specs.Char.{is_ascii_alphabetic, is_ascii_whitespace}
+use Rattle.std.specs.Str.{str_to_ascii_lowercase}
 use Rattle.std.specs.Prelude.{ℕ, zero, suc, ◌+◌, ◌-◌, ◌==◌, min, Bool, false, cond, not, ◌&&◌, ◌||◌, List, [], ◌∷◌, map, codes, slice_index, take, drop, length}
 use Rattle.std.specs.Bool.{nat_lt}
-use Rattle.html_meaning.specs.Bytes.{is_space, is_letter, lower, begins, begins_like, up_to, is_among}
+use Rattle.html_meaning.specs.Bytes.{begins, begins_like, up_to, is_among}
 use Rattle.html_meaning.specs.Elements.{raw_text_elements, holds_raw_text}
 
 -- what a token is, as the source spells it: a start tag has its name, the text between that and its `>`, and whether it is
@@ -24,11 +26,11 @@ pub record Token : Type 0 where
 -- a tag's name ends here: space, `/` or `>`
 abbrev pub ends_name : List ℕ → Bool
 ends_name [] = false
-ends_name (b ∷ bs) = is_space b || b == 47 || b == 62
+ends_name (b ∷ bs) = is_ascii_whitespace b || b == 47 || b == 62
 
 -- a byte between attributes: space or `/`
 abbrev pub is_between : ℕ → Bool
-is_between b = is_space b || b == 47
+is_between b = is_ascii_whitespace b || b == 47
 
 -- an attribute's name ends here: space, `/`, `>` or `=`
 abbrev pub ends_attribute_name : List ℕ → Bool
@@ -37,12 +39,12 @@ ends_attribute_name bytes = ends_name bytes || slice_index bytes 0 == 61
 -- a value without quotes ends here: space or `>`
 abbrev pub ends_unquoted_value : List ℕ → Bool
 ends_unquoted_value [] = false
-ends_unquoted_value (b ∷ bs) = is_space b || b == 62
+ends_unquoted_value (b ∷ bs) = is_ascii_whitespace b || b == 62
 
 -- a byte stands here that is no space
 abbrev pub no_space : List ℕ → Bool
 no_space [] = false
-no_space (b ∷ bs) = not (is_space b)
+no_space (b ∷ bs) = not (is_ascii_whitespace b)
 
 -- `"` or `'`
 abbrev pub is_quote : ℕ → Bool
@@ -112,17 +114,17 @@ pub record Found : Type 0 where
 
 -- a start tag begins here: `<` and a letter
 abbrev pub is_start : List ℕ → Bool
-is_start bytes = slice_index bytes 0 == 60 && is_letter (slice_index bytes 1)
+is_start bytes = slice_index bytes 0 == 60 && is_ascii_alphabetic (slice_index bytes 1)
 
 -- an end tag begins here: `</` and a letter
 abbrev pub is_end : List ℕ → Bool
-is_end bytes = begins (codes "</") bytes && is_letter (slice_index bytes 2)
+is_end bytes = begins (codes "</") bytes && is_ascii_alphabetic (slice_index bytes 2)
 
 -- a comment that ends at the first `>` begins here: `<!`, `<?`, or `</` and a byte that is no letter
 abbrev pub is_bogus_comment : List ℕ → Bool
 is_bogus_comment bytes =
     begins (codes "<!") bytes || begins (codes "<?") bytes
-    || (begins (codes "</") bytes && nat_lt 2 (length bytes) && not (is_letter (slice_index bytes 2)))
+    || (begins (codes "</") bytes && nat_lt 2 (length bytes) && not (is_ascii_alphabetic (slice_index bytes 2)))
 
 -- something other than text begins here; comments and doctypes begin with `<!` too
 abbrev pub opens : List ℕ → Bool
@@ -183,7 +185,7 @@ ends_raw_text name bytes =
 abbrev pub raw_text : List ℕ → List ℕ → Found
 raw_text name bytes =
     record {
-      piece = Chars (take (up_to (ends_raw_text name) bytes) bytes) (is_among (lower name) raw_text_elements);
+      piece = Chars (take (up_to (ends_raw_text name) bytes) bytes) (is_among (str_to_ascii_lowercase name) raw_text_elements);
       size = up_to (ends_raw_text name) bytes;
     }
 
@@ -204,7 +206,7 @@ first raw bytes =
 
 -- the name of the element whose raw text follows a token, empty where none does
 abbrev pub raw_after : Piece → List ℕ
-raw_after (Start name attrs self_closing) = cond (holds_raw_text (lower name)) name []
+raw_after (Start name attrs self_closing) = cond (holds_raw_text (str_to_ascii_lowercase name)) name []
 raw_after (End name) = []
 raw_after (Chars bytes raw) = []
 raw_after (Comment bytes) = []

@@ -1,11 +1,12 @@
 -- Where a text may be cut around an attribute.
+use Rattle.std.specs.Char.{is_ascii_whitespace}
 use Rattle.std.proofs.Common.{◌≡◌, ℕ, zero, suc, ◌+◌, ◌-◌, ◌<◌, ◌≤◌, Bool, true, false, cond, not, List, [], ◌∷◌, length, drop, refl, arith, ap, subst, ◌∙◌, ⊎_elim}
 use Rattle.std.specs.Prelude.{slice_index, ◌==◌}
 use Rattle.std.proofs.lemmas.Bool.{eqb-true, or_cases}
 use Rattle.std.specs.Str.{IsUtf8, IsCharBoundary}
 use Rattle.std.proofs.lemmas.List.{length-drop, get_or-drop, drop-drop}
 use Rattle.std.proofs.lemmas.Str.{IsCharBoundary-start, IsUtf8-drop}
-use Rattle.html_meaning.specs.Bytes.{up_to, is_space}
+use Rattle.html_meaning.specs.Bytes.{up_to}
 use Rattle.html_meaning.specs.Tokens.{no_space, is_quote}
 use Rattle.html_tokens.specs.Ascii.{is_space-ascii}
 use Rattle.html_tokens.specs.Extents.{AreCuts}
@@ -22,8 +23,8 @@ counted false n k h = absurd (omega (arith, h))
 -- the bytes before the first that is no space are ASCII
 pub spaces_ascii : (bytes : List ℕ) (k : ℕ) → k < up_to no_space bytes → slice_index bytes k < 128
 spaces_ascii [] k h = omega arith
-spaces_ascii (b ∷ bs) zero h = is_space-ascii b (counted (is_space b) (up_to no_space bs) 0 h).0
-spaces_ascii (b ∷ bs) (suc k) h = spaces_ascii bs k (omega (arith, (counted (is_space b) (up_to no_space bs) (suc k) h).1))
+spaces_ascii (b ∷ bs) zero h = is_space-ascii b (counted (is_ascii_whitespace b) (up_to no_space bs) 0 h).0
+spaces_ascii (b ∷ bs) (suc k) h = spaces_ascii bs k (omega (arith, (counted (is_ascii_whitespace b) (up_to no_space bs) (suc k) h).1))
 
 -- behind an ASCII byte and white space
 pub boundary_behind_spaces : (bytes : List ℕ) (place n : ℕ) → IsUtf8 bytes → 0 < place → place + n ≤ length bytes

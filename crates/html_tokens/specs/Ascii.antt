@@ -1,8 +1,10 @@
 -- A place that passes a test begins with an ASCII byte.
+use Rattle.std.specs.Char.{is_ascii_whitespace}
 use Rattle.std.specs.Prelude.{◌≡◌, ℕ, ◌<◌, ◌==◌, true, List, [], ◌∷◌, slice_index, codes, ◌&&◌, ◌||◌}
 use Rattle.std.proofs.Common.{arith, ⊎_elim}
+use Rattle.std.proofs.lemmas.Bool.Decides.{nat_tests}
 use Rattle.std.proofs.lemmas.Bool.{eqb-true, and_parts, or_cases}
-use Rattle.html_meaning.specs.Bytes.{is_space, begins}
+use Rattle.html_meaning.specs.Bytes.{begins}
 use Rattle.html_meaning.specs.Tokens.{is_quote, is_angle, ends_name, ends_attribute_name, ends_unquoted_value, ends_comment, opens, is_start, is_end, is_bogus_comment, ends_raw_text}
 
 pub is_angle-ascii : (bytes : List ℕ) → is_angle bytes ≡ true → slice_index bytes 0 < 128
@@ -11,22 +13,20 @@ is_angle-ascii bytes e = omega (arith, eqb-true _ _ e)
 pub at_byte : (b n : ℕ) → n < 128 → (b == n) ≡ true → b < 128
 at_byte b n h t = omega (arith, eqb-true b n t)
 
-pub is_space-ascii : (b : ℕ) → is_space b ≡ true → b < 128
-is_space-ascii b e =
-    ⊎_elim (λ e1. ⊎_elim (λ e2. ⊎_elim (λ e3. ⊎_elim (at_byte b 32 (omega arith)) (at_byte b 9 (omega arith)) (or_cases _ _ e3)) (at_byte b 10 (omega arith)) (or_cases _ _ e2)) (at_byte b 12 (omega arith)) (or_cases _ _ e1))
-    (at_byte b 13 (omega arith)) (or_cases _ _ e)
+pub is_space-ascii : (b : ℕ) → is_ascii_whitespace b ≡ true → b < 128
+is_space-ascii b e = grind (arith, nat_tests)
 
 pub ends_name-ascii : (bytes : List ℕ) → ends_name bytes ≡ true → slice_index bytes 0 < 128
 ends_name-ascii [] e = omega arith
 ends_name-ascii (b ∷ bs) e =
-    ⊎_elim (λ e1. ⊎_elim (is_space-ascii b) (at_byte b 47 (omega arith)) (or_cases (is_space b) (b == 47) e1)) (at_byte b 62 (omega arith)) (or_cases (is_space b || b == 47) (b == 62) e)
+    ⊎_elim (λ e1. ⊎_elim (is_space-ascii b) (at_byte b 47 (omega arith)) (or_cases (is_ascii_whitespace b) (b == 47) e1)) (at_byte b 62 (omega arith)) (or_cases (is_ascii_whitespace b || b == 47) (b == 62) e)
 
 pub ends_attribute_name-ascii : (bytes : List ℕ) → ends_attribute_name bytes ≡ true → slice_index bytes 0 < 128
 ends_attribute_name-ascii bytes e = ⊎_elim (ends_name-ascii bytes) (at_byte (slice_index bytes 0) 61 (omega arith)) (or_cases (ends_name bytes) _ e)
 
 pub ends_unquoted_value-ascii : (bytes : List ℕ) → ends_unquoted_value bytes ≡ true → slice_index bytes 0 < 128
 ends_unquoted_value-ascii [] e = omega arith
-ends_unquoted_value-ascii (b ∷ bs) e = ⊎_elim (is_space-ascii b) (at_byte b 62 (omega arith)) (or_cases (is_space b) (b == 62) e)
+ends_unquoted_value-ascii (b ∷ bs) e = ⊎_elim (is_space-ascii b) (at_byte b 62 (omega arith)) (or_cases (is_ascii_whitespace b) (b == 62) e)
 
 -- what begins with a text begins with its first byte
 pub begins-first : (t : ℕ) (ts bytes : List ℕ) → begins (t ∷ ts) bytes ≡ true → slice_index bytes 0 ≡ t

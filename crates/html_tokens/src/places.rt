@@ -1,7 +1,7 @@
 // Where a part of a token ends: tests of what stands from a place on.
 
 ghost use Rattle.std.specs.Prelude.{◌≡◌, ◌<◌, ◌≤◌, ◌+◌, drop, ℕ, Bool, true, List, length, slice_index, cond, codes};
-ghost use Rattle.html_meaning.specs.Bytes.{is_space, is_letter, begins, begins_like};
+ghost use Rattle.html_meaning.specs.Bytes.{begins, begins_like};
 ghost use Rattle.html_meaning.specs.Tokens.{ends_name, is_between, is_quote, is_start, is_end, is_bogus_comment, opens, ends_raw_text};
 
 /// A test of the rest of a source from a place on.
@@ -30,25 +30,11 @@ pub fn after(bytes: &[u8], place: usize) -> &[u8]
     &bytes[place..]
 }
 
-/// ASCII white space: space, tab, LF, FF or CR.
-pub fn is_space(b: u8) -> bool
-    ensures { result ≡ is_space b }
-{
-    matches!(b, b' ' | b'\t' | b'\n' | 12 | b'\r')
-}
-
-/// An ASCII letter.
-pub fn is_letter(b: u8) -> bool
-    ensures { result ≡ is_letter b }
-{
-    matches!(b, b'A'..=b'Z' | b'a'..=b'z')
-}
-
 /// A byte between attributes: space or `/`.
 pub fn is_between(b: u8) -> bool
     ensures { result ≡ is_between b }
 {
-    is_space(b) || b == b'/'
+    b.is_ascii_whitespace() || b == b'/'
 }
 
 /// A quote around a value: `"` or `'`.
@@ -82,7 +68,7 @@ pub fn ends_name(rest: &[u8]) -> bool
 {
     match rest {
         [] => false,
-        [b, ..] => is_space(*b) || *b == b'/' || *b == b'>',
+        [b, ..] => b.is_ascii_whitespace() || *b == b'/' || *b == b'>',
     }
 }
 
@@ -90,14 +76,14 @@ pub fn ends_name(rest: &[u8]) -> bool
 pub fn is_start(rest: &[u8]) -> bool
     ensures { result ≡ is_start rest.now }
 {
-    byte(rest, 0) == b'<' && is_letter(byte(rest, 1))
+    byte(rest, 0) == b'<' && byte(rest, 1).is_ascii_alphabetic()
 }
 
 /// An end tag begins: `</` and a letter.
 pub fn is_end(rest: &[u8]) -> bool
     ensures { result ≡ is_end rest.now }
 {
-    begins(b"</", rest) && is_letter(byte(rest, 2))
+    begins(b"</", rest) && byte(rest, 2).is_ascii_alphabetic()
 }
 
 /// A comment begins that ends at the first `>`: `<!`, `<?`, or `</` and a byte that is no letter.
@@ -106,7 +92,7 @@ pub fn is_bogus_comment(rest: &[u8]) -> bool
 {
     begins(b"<!", rest)
         || begins(b"<?", rest)
-        || (begins(b"</", rest) && rest.len() > 2 && !is_letter(byte(rest, 2)))
+        || (begins(b"</", rest) && rest.len() > 2 && !byte(rest, 2).is_ascii_alphabetic())
 }
 
 /// The raw text of the element with this name ends: `</`, the name, the case of letters ignored, and the end of a name.
@@ -184,7 +170,7 @@ impl Place for UnquotedValueEnd {
     fn holds(&self, rest: &[u8]) -> bool {
         match rest {
             [] => false,
-            [b, ..] => is_space(*b) || *b == b'>',
+            [b, ..] => b.is_ascii_whitespace() || *b == b'>',
         }
     }
 

@@ -6,7 +6,8 @@ ghost use Rattle.html_meaning.specs.Bytes.{begins, begins_like, up_to};
 ghost use Rattle.html_meaning.specs.Tokens.{comment, bogus_comment, doctype, tag, text, raw_text, first, is_angle, ends_comment, is_bogus_comment, is_start, is_end, begins_raw_text, ends_raw_text, to_tag_end, is_self_closing};
 ghost use Rattle.html_tokens.specs.Views.{Reads, IsTag, is_whole};
 ghost use Rattle.html_meaning.specs.Tokens as meant;
-ghost use Rattle.html_meaning.specs.Bytes.{is_among, lower};
+ghost use Rattle.html_meaning.specs.Bytes.{is_among};
+ghost use Rattle.std.specs.Str.{str_to_ascii_lowercase};
 ghost use Rattle.html_meaning.specs.Elements.{raw_text_elements, holds_raw_text};
 
 use crate::places::{
@@ -173,14 +174,14 @@ fn raw_text<'a>(name: &str, source: &'a str) -> Found<'a>
 
 // The text of this element is raw, so that no character reference counts in it.
 fn is_raw_text_element(name: &str) -> bool
-    ensures { result ≡ is_among (lower name.now) raw_text_elements }
+    ensures { result ≡ is_among (str_to_ascii_lowercase name.now) raw_text_elements }
 {
     name.eq_ignore_ascii_case("script") || name.eq_ignore_ascii_case("style")
 }
 
 /// Up to its own end tag, an element of this name has text alone.
 pub fn holds_raw_text(name: &str) -> bool
-    ensures { result ≡ holds_raw_text (lower name.now) }
+    ensures { result ≡ holds_raw_text (str_to_ascii_lowercase name.now) }
 {
     is_raw_text_element(name)
         || name.eq_ignore_ascii_case("textarea")

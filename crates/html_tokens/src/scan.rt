@@ -6,9 +6,7 @@ ghost use Rattle.html_meaning.specs.Tokens.{no_space, attribute, to_tag_end, is_
 ghost use Rattle.html_tokens.specs.Extents.{AreCuts, IsExtent};
 ghost use Rattle.std.specs.Str.{IsCharBoundary, IsUtf8};
 
-use crate::places::{
-    AttributeNameEnd, Place, UnquotedValueEnd, after, byte, is_between, is_quote, is_space,
-};
+use crate::places::{AttributeNameEnd, Place, UnquotedValueEnd, after, byte, is_between, is_quote};
 
 /// How many bytes stand before the first place that passes, all where none does.
 pub fn up_to<P: Place>(place: &P, bytes: &[u8]) -> usize
@@ -34,7 +32,7 @@ pub fn spaces(bytes: &[u8]) -> usize
 {
     let mut passed = 0;
     while passed < bytes.len() {
-        if !is_space(byte(bytes, passed)) {
+        if !byte(bytes, passed).is_ascii_whitespace() {
             return passed;
         }
         passed += 1;
