@@ -1,2 +1,3 @@
 mod LineEnds
 mod LastSpaces
+pub mod Passing

@@ -1,3 +1,5 @@
 pub mod Lines
 pub mod Spaces
 pub mod Example
+pub mod Cursors
+pub mod Mark

@@ -1,10 +1,15 @@
-//! What the readers of all formats stand on: lines of a source, lent and numbered, and white space.
+//! What the readers of all formats stand on: lines of a source, lent and numbered, a cursor in a text, white space, and the
+//! byte order mark.
 #![tactic(auto)]
 
+mod cursor;
 mod lines;
+mod mark;
 mod spaces;
 
+pub use cursor::{Cursor, Span};
 pub use lines::{Line, Lines};
+pub use mark::{mark_length, text_without_mark, without_mark};
 pub use spaces::{is_space, trim};
 
 #[cfg(test)]
@@ -28,5 +33,20 @@ mod tests {
         }
         assert!(rt; lines.next().is_none());
         assert!(rt; Lines::new(b"").next().is_none());
+    }
+
+    #[test]
+    fn a_cursor_goes_by_characters(rt: HostRuntime) {
+        let mut cursor = Cursor::new("a\u{e9}b");
+        assert_eq!(rt; cursor.step(), Some('a'));
+        assert_eq!(rt; cursor.peek(), Some('\u{e9}'));
+        assert_eq!(rt; cursor.step(), Some('\u{e9}'));
+        assert_eq!(rt; cursor.place(), 3);
+        assert_eq!(rt; cursor.since(0), "a\u{e9}");
+        assert_eq!(rt; cursor.rest(), "b");
+        assert_eq!(rt; cursor.step(), Some('b'));
+        assert_eq!(rt; cursor.step(), None);
+        assert_eq!(rt; without_mark(b"\xef\xbb\xbfx"), b"x".as_slice());
+        assert_eq!(rt; mark_length(b"\xef\xbbx"), 0);
     }
 }

@@ -64,6 +64,13 @@ impl<T> Listed<T> {
     {
         self.items.as_slice()
     }
+
+    /// All items, taken out of the list.
+    pub fn into_vec(self) -> Vec<T>
+        ensures { result.items ≡ self }
+    {
+        self.items
+    }
 }
 
 impl<T: Drop> Listed<T> {

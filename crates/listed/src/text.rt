@@ -1,4 +1,5 @@
 ghost use Rattle.std.specs.Prelude.{◌≡◌, [], ◌++◌, encode_utf8, IfOk, OnOk, OnErr};
+ghost use Rattle.std.specs.Str.{str_to_ascii_lowercase};
 
 use std::alloc::{AllocError, Global};
 use std::marker::Model;
@@ -36,6 +37,14 @@ impl Text {
         Ok(Text {
             inner: String::from_str(alloc, text)?,
         })
+    }
+
+    /// The text with its ASCII letters in lower case.
+    pub fn lower(alloc: Global, text: &str) -> Result<Text, AllocError>
+        ensures { IfOk result (λ lower. lower ≡ str_to_ascii_lowercase text.now) }
+    {
+        let inner = text.to_ascii_lowercase(alloc)?;
+        Ok(Text { inner })
     }
 
     /// Adds a character at the end.

@@ -69,15 +69,15 @@ seen_of e = record { number = e.number; name = e.name; attrs = e.attrs; after = 
 abbrev pub chosen : ℕ → List Standing → Option Standing
 chosen k = find_item (λ e. e.number == k)
 
-option_or-none : (o : Option Standing) → option_or o None ≡ o
+pub option_or-none : (o : Option Standing) → option_or o None ≡ o
 option_or-none None = refl
 option_or-none (Some e) = refl
 
-chosen-append : (k : ℕ) (xs ys : List Standing) → chosen k (xs ++ ys) ≡ option_or (chosen k xs) (chosen k ys)
+pub chosen-append : (k : ℕ) (xs ys : List Standing) → chosen k (xs ++ ys) ≡ option_or (chosen k xs) (chosen k ys)
 chosen-append k = find-append (λ e. e.number == k)
 
 -- a number that doesn't stand in the forest has no element
-chosen-none : (k : ℕ) (f : Forest) (above : List ℕ) (before : List Sibling) → count k f ≡ 0 → chosen k (standings above before f) ≡ None
+pub chosen-none : (k : ℕ) (f : Forest) (above : List ℕ) (before : List Sibling) → count k f ≡ 0 → chosen k (standings above before f) ≡ None
 chosen-none k empty above before h = refl
 chosen-none k (node n document kids later) above before h = chosen-none k later above before (omega arith)
 chosen-none k (node n (element called given) kids later) above before h =
@@ -185,7 +185,7 @@ room-or_else : (f g : Forest) → HaveRoom f → HaveRoom g → HaveRoom (or_els
 room-or_else empty g a b = b
 room-or_else (node n c kids later) g a b = a
 
-room-find : (k : ℕ) (f : Forest) → HaveRoom f → HaveRoom (find k f)
+pub room-find : (k : ℕ) (f : Forest) → HaveRoom f → HaveRoom (find k f)
 room-find k empty room = tt
 room-find k (node n c kids later) room =
     cond_both (k == n) (node n c kids later) (or_else (find k kids) (find k later)) HaveRoom

@@ -7,3 +7,5 @@ pub mod Directions
 pub mod Trees
 pub mod ForestCode
 pub mod Example
+pub mod Fragments
+pub mod FragmentExample

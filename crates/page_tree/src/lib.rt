@@ -2,7 +2,8 @@
 //!
 //! `specs/Forest.antt` has the nodes and how they are found, `Edits.antt` how a tree changes, `Standings.antt` what
 //! stands around an element, `Directions.antt` the ways from one element to others, `Facts.antt` what a page says of an
-//! element, and `Trees.antt` what every tree keeps. `Example.antt` computes each of them on small pages.
+//! element, and `Trees.antt` what every tree keeps. `Fragments.antt` has nodes that will stand in a tree, by their depths,
+//! and the limits that they may pass. `Example.antt` and `FragmentExample.antt` compute each of them on small pages.
 #![tactic(auto)]
 
 /// How many nodes a tree has at most, the document aside.
