@@ -1,7 +1,7 @@
 -- New children of a node, in the forest and in the slots.
-use Rattle.std.proofs.Common.{◌≡◌, ℕ, zero, suc, ◌+◌, ◌<◌, ◌≤◌, List, [], ◌∷◌, ◌++◌, length, set, refl, sym, ◌∙◌, ap, subst, inl, inr, arith}
-use Rattle.std.proofs.lemmas.Bool.{cases_eq, cases_lt}
-use Rattle.std.proofs.lemmas.List.{get_or-set_same, get_or-set_other, get_or_append_left, get_or_past, get_or_push, length_push}
+use Rattle.std.proofs.Common.{◌≡◌, ℕ, zero, suc, ◌+◌, ◌<◌, ◌≤◌, List, length, set, refl, sym, ◌∙◌, ap, subst, inl, inr, arith}
+use Rattle.std.proofs.lemmas.Bool.{cases_eq}
+use Rattle.std.proofs.lemmas.List.{get_or-set_same, get_or-set_other}
 use Rattle.page_tree.specs.Forest.{Content, document, element, text, comment, Forest, empty, node, rooted, count, size, head, tops, find, or_else, children}
 use Rattle.page_tree.specs.Edits.{joined, insert_at, with_children}
 use Rattle.page_tree.specs.Trees.{MayHave, IsGrown}
@@ -217,15 +217,3 @@ slot_at-set_same l i v h = get_or-set_same l i v free h
 -- the other slots stay
 pub slot_at-set_other : (l : List Slot) (i k : ℕ) (v : Slot) → (k ≡ i → ⊥) → slot_at (set l i v) k ≡ slot_at l k
 slot_at-set_other l i k v h = get_or-set_other l i k v free h
-
--- a pushed slot changes no other
-pub slot_at-push : (l : List Slot) (v : Slot) (k : ℕ) → (k ≡ length l → ⊥) → slot_at (l ++ v ∷ []) k ≡ slot_at l k
-slot_at-push l v k h =
-    elim (cases_lt k (length l)) [
-      | inl lt ↦ get_or_append_left l (v ∷ []) free k lt
-      | inr le ↦ get_or_past (l ++ v ∷ []) k free (omega (arith, length_push l v)) ∙ sym (get_or_past l k free le)
-    ]
-
--- the pushed slot
-pub slot_at-pushed : (l : List Slot) (v : Slot) → slot_at (l ++ v ∷ []) (length l) ≡ v
-slot_at-pushed l v = get_or_push l v free (length l) refl

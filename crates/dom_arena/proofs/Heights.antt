@@ -1,7 +1,7 @@
 -- How high a forest is after a change.
-use Rattle.std.proofs.Common.{◌≡◌, ℕ, zero, suc, ◌+◌, ◌≤◌, max, Option, Some, None, refl, sym, ◌∙◌, inl, inr, arith}
+use Rattle.std.proofs.Common.{◌≡◌, ℕ, zero, suc, ◌+◌, ◌≤◌, max, Some, None, refl, sym, ◌∙◌, inl, inr, arith}
 use Rattle.std.proofs.lemmas.Bool.{cases_eq}
-use Rattle.page_tree.specs.Forest.{Forest, empty, node, count, find, or_some, children, depth_in, height}
+use Rattle.page_tree.specs.Forest.{Forest, empty, node, count, find, children, depth_in, height}
 use Rattle.page_tree.specs.Edits.{joined, insert_at, with_children}
 use Rattle.dom_arena.specs.declared.table.Slot.{Slot}
 use Rattle.dom_arena.specs.Linked.{Linked}

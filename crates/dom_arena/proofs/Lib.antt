@@ -11,3 +11,8 @@ pub mod Added
 pub mod Order
 pub mod Attributes
 pub mod Rewrites
+pub mod Regrafts
+pub mod Ways
+pub mod Limits
+pub mod Hangings
+pub mod Grafting

@@ -6,7 +6,7 @@ use Rattle.page_tree.specs.Forest.{Content, document, Forest, empty, node, roote
 use Rattle.dom_arena.specs.declared.table.Slot.{Slot}
 use Rattle.dom_arena.specs.Slots.{slot_at, IsUsed, number_of}
 use Rattle.dom_arena.specs.Linked.{Linked, Stands}
-use Rattle.dom_arena.proofs.Links.{same_cases, find-none, stands_used, first_child_found, first-head}
+use Rattle.dom_arena.proofs.Links.{same_cases, find-none, stands_used, first_child_found}
 use Rattle.dom_arena.proofs.Siblings.{same-eq}
 use Rattle.dom_arena.proofs.Family.{counted_used}
 

@@ -1,5 +1,5 @@
 -- What a node is, as the tree has it, as its slot holds it and as a new node says it.
-use Rattle.std.specs.Prelude.{ℕ, Bool, true, false}
+use Rattle.std.specs.Prelude.{ℕ, Bool, true, false, List, map}
 use Rattle.page_tree.specs.Forest.{Content, document, element, text, comment, Forest, empty, node}
 use Rattle.dom_arena.specs.declared.kinds.NodeKind.{NodeKind}
 use Rattle.dom_arena.specs.declared.kinds.NodeKind.TheVariants.{Document as KindDocument, Element as KindElement, Text as KindText, Comment as KindComment}
@@ -43,6 +43,10 @@ abbrev pub new_content : NewNode → Content
 new_content (NewElement name attrs) = element name attrs
 new_content (NewText bytes) = text bytes
 new_content (NewComment bytes) = comment bytes
+
+-- the nodes of a fragment, each with its depth
+abbrev pub new_nodes : List (ℕ × NewNode) → List (ℕ × Content)
+new_nodes part = map (λ (n : ℕ × NewNode). (n.0, new_content n.1)) part
 
 -- a new node by itself, under its number
 abbrev pub single : ℕ → NewNode → Forest

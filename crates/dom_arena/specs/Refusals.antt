@@ -1,7 +1,8 @@
 -- When a call on a tree is refused, and by which error.
-use Rattle.std.specs.Prelude.{ℕ, Option, Some, None, cond, length, nat_lt}
-use Rattle.page_tree.specs.Forest.{document, element, text, comment, Forest, empty, node, Tree, rooted, size, find, tops, depth_in}
+use Rattle.std.specs.Prelude.{ℕ, List, Option, Some, None, option_map, cond, length, nat_lt}
+use Rattle.page_tree.specs.Forest.{Content, document, element, text, comment, Forest, empty, node, Tree, rooted, size, find, tops, depth_in}
 use Rattle.page_tree.specs.Edits.{children_of}
+use Rattle.page_tree.specs.Fragments.{Limit, TooDeep as DepthPassed, TooManyNodes as NumberPassed, limit_passed}
 use Rattle.page_tree.specs.declared.TheConstants.{NODE_LIMIT, DEPTH_LIMIT}
 use Rattle.dom_arena.specs.declared.refusals.DomError.{DomError}
 use Rattle.dom_arena.specs.declared.refusals.DomError.TheVariants.{NoSuchNode, NotElement, BadPlace, TooDeep, TooManyNodes}
@@ -47,3 +48,17 @@ add_refused p place t = or_error (place_refused p place t) (limits_refused (dept
 -- the refusal of a new node behind the last child of p
 abbrev pub append_refused : ℕ → Tree → Option DomError
 append_refused p t = add_refused p (children_of p t) t
+
+-- the error of a limit that is passed
+abbrev pub dom_error : Limit → DomError
+dom_error DepthPassed = TooDeep
+dom_error NumberPassed = TooManyNodes
+
+-- the refusal of a fragment below a node of this depth, where there are so many: that of its first node that passes a limit
+abbrev pub part_refused : Option ℕ → ℕ → List (ℕ × Content) → Option DomError
+part_refused None nodes part = None
+part_refused (Some depth) nodes part = option_map dom_error (limit_passed depth nodes part)
+
+-- the refusal of a fragment at a place: that of the place, then that of its first node that passes a limit
+abbrev pub graft_refused : ℕ → ℕ → List (ℕ × Content) → Tree → Option DomError
+graft_refused p place part t = or_error (place_refused p place t) (part_refused (depth_in p 0 (rooted t.nodes)) (size t.nodes) part)

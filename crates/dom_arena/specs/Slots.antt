@@ -1,5 +1,5 @@
 -- The slots of the arena.
-use Rattle.std.specs.Prelude.{◌≡◌, ℕ, ◌==◌, cond, List, Option, Some, None, slice_index_or, slice_set}
+use Rattle.std.specs.Prelude.{◌≡◌, ℕ, zero, suc, ◌==◌, cond, List, Option, Some, None, slice_index_or, slice_set}
 use Rattle.page_tree.specs.Forest.{Content, Forest, empty, node, head}
 use Rattle.dom_arena.specs.Contents.{payload_of}
 use Rattle.dom_arena.specs.declared.kinds.Payload.{Payload}
@@ -59,3 +59,12 @@ with_back_link n parent after slots =
     cond (after == 0)
     (slice_set slots parent (record (slot_at slots parent) { last_child = n }))
     (slice_set slots after (record (slot_at slots after) { previous = n }))
+
+-- the slots with a new node n between two siblings, 0 standing for none
+abbrev pub put : ℕ → ℕ → ℕ → ℕ → Content → List Slot → List Slot
+put n parent before after c slots = with_back_link n parent after (with_link n parent before (slice_set slots n (cell parent empty after before c)))
+
+-- the number so many steps up from k
+abbrev pub climbed : (ℕ → Slot) → ℕ → ℕ → ℕ
+climbed s zero k = k
+climbed s (suc steps) k = climbed s steps (s k).parent

@@ -1,15 +1,17 @@
-ghost use Rattle.std.specs.Prelude.{◌≡◌, ◌<◌, true, Some, None, IfOk, IfErr, OnOk, OnErr, MatchOption, IsOkUnless, IsOk};
+ghost use Rattle.std.specs.Prelude.{◌≡◌, ◌+◌, ◌<◌, ◌≤◌, length, true, Some, None, IfOk, IfErr, OnOk, OnErr, MatchOption, IsOkUnless, IsOk};
 ghost use Rattle.std.specs.Str.{str_to_ascii_lowercase};
 ghost use Rattle.page_tree.specs.Forest.{rooted, find, children, later_of, first, content, parent_in, previous_in, depth_in, behind, numbers, size, empty};
 ghost use Rattle.page_tree.specs.Edits.{added, appended};
+ghost use Rattle.page_tree.specs.Fragments.{IsFragment, with_fragment};
 ghost use Rattle.page_tree.specs.Trees.{IsTree, IsOrdinary};
 ghost use Rattle.dom_arena.specs.Attributes.{attr_refused, with_attr_set, with_attr_dropped, is_element};
-ghost use Rattle.dom_arena.specs.Contents.{new_content, single};
+ghost use Rattle.dom_arena.specs.Contents.{new_content, new_nodes, single};
 ghost use Rattle.dom_arena.specs.Linked.{Stands, tree_of};
-ghost use Rattle.dom_arena.specs.Refusals.{place_refused, add_refused, append_refused};
+ghost use Rattle.dom_arena.specs.Refusals.{place_refused, add_refused, append_refused, graft_refused};
 ghost use Rattle.dom_arena.specs.Slots.{slot_at, IsUsed};
 
-use crate::kinds::{NewNode, NodeRef, Payload};
+use crate::fragments::graft_into;
+use crate::kinds::{Fragment, NewNode, NodeRef, Payload};
 use crate::places::{check_limits, find_end, find_place, push_between};
 use crate::refusals::DomError;
 use crate::table::{Slot, Table};
@@ -193,6 +195,26 @@ impl Dom {
         Ok(n)
     }
 
+    /// Puts a fragment at a place among the children of `parent`, its nodes numbered in document order, and answers the
+    /// first of their numbers; for an empty fragment the next number. All memory is taken first.
+    ///
+    /// Refused in this order: as by `check_place`, then by the first new node in document order that would pass a limit:
+    /// `TooDeep` where it would stand deeper than `DEPTH_LIMIT`, else `TooManyNodes` where it would be one more than
+    /// `NODE_LIMIT`.
+    pub fn graft(&mut self, parent: u32, place: u32, part: Fragment) -> Result<u32, DomError>
+        requires number { self.old.next + length part ≤ 4294967295 }
+        requires fragment { IsFragment (new_nodes part) }
+        ensures answer { MatchOption (graft_refused parent place (new_nodes part) self.old) (IsOkUnless result DomError.NoMemory) (λ e. result ≡ Err e) }
+        ensures number { IfOk result (λ n. n ≡ self.old.next) }
+        ensures tree { OnOk result (self.new ≡ with_fragment parent place (new_nodes part) self.old) }
+        ensures err { OnErr result (self.new ≡ self.old) }
+    {
+        let count = part.len() as u32;
+        let first = graft_into(&mut self.table, self.nodes, parent, place, part)?;
+        self.nodes += count;
+        Ok(first)
+    }
+
     /// Gives an attribute of an element a value. The name is kept in lower case; an attribute that is there keeps its
     /// place, and a new one goes last.
     ///
@@ -203,7 +225,7 @@ impl Dom {
         ensures err { OnErr result (self.new ≡ self.old) }
     {
         check_element(&self.table, n)?;
-        let name = lower_case(self.alloc, name)?;
+        let name = Text::lower(self.alloc, name)?;
         let value = Text::of(self.alloc, value)?;
         self.table.set_attr(n, name, value)?;
         Ok(())
@@ -254,11 +276,4 @@ fn has_attrs(payload: &Payload) -> bool
         Payload::Element { .. } => true,
         _ => false,
     }
-}
-
-fn lower_case(alloc: Global, text: &str) -> Result<Text, AllocError>
-    ensures { IfOk result (λ lower. lower ≡ str_to_ascii_lowercase text.now) }
-{
-    let lower = text.to_ascii_lowercase(alloc)?;
-    Text::of(alloc, lower.as_str())
 }

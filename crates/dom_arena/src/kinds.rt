@@ -26,6 +26,9 @@ pub enum NewNode {
     Comment(Text),
 }
 
+/// Nodes that will stand together below a node of a tree: each with its depth below that place, in document order.
+pub type Fragment = Listed<(u32, NewNode)>;
+
 /// What a slot holds; `Free` where there is no node.
 #[derive(Debug, Drop)]
 pub(crate) enum Payload {
@@ -112,6 +115,16 @@ impl<'a> NodeRef<'a> {
         match self.payload {
             Payload::Element { attrs, .. } => pair_at(attrs.as_slice(), i),
             _ => None,
+        }
+    }
+
+    /// The attributes of an element in order, each a name with a value; else none.
+    pub fn attrs(&self) -> &'a [(Text, Text)]
+        ensures { result.now ≡ attrs_of self.now }
+    {
+        match self.payload {
+            Payload::Element { attrs, .. } => attrs.as_slice(),
+            _ => &[],
         }
     }
 }

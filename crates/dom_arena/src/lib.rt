@@ -3,10 +3,12 @@
 //! A `Dom` is what `page_tree` calls a tree: node 0 is the document, and below it stand elements, texts and comments.
 //! The walks and the looks at a node take no memory, and constant time but for `depth` (at most 512 steps) and
 //! `next_in_order` (constant over a whole walk). `append` takes the time of `depth`, and `add` walks the siblings too.
+//! `graft` takes that of `add` once, and constant time for each of its nodes over the whole.
 #![tactic(auto)]
 
 mod attrs;
 mod dom;
+mod fragments;
 mod kinds;
 mod places;
 mod refusals;
@@ -14,7 +16,7 @@ mod table;
 mod walks;
 
 pub use dom::Dom;
-pub use kinds::{Attrs, NewNode, NodeKind, NodeRef};
+pub use kinds::{Attrs, Fragment, NewNode, NodeKind, NodeRef};
 pub use refusals::DomError;
 
 #[cfg(test)]
@@ -70,6 +72,33 @@ mod tests {
         assert_eq!(rt; dom.parent(2), Some(1));
         assert_eq!(rt; dom.depth(3), Some(2));
         assert_eq!(rt; dom.count(), 3);
+        Ok(())
+    }
+
+    #[test]
+    fn a_fragment_is_grafted(rt: HostRuntime) -> Result<(), Fail> {
+        let alloc = rt.alloc();
+        let mut dom = Dom::new(alloc)?;
+        dom.append(0, NewNode::Text(Text::new(alloc)))?;
+        dom.append(0, NewNode::Text(Text::new(alloc)))?;
+        let mut part = Fragment::new(alloc);
+        let name = Text::of(alloc, "b")?;
+        let attrs = Attrs::new(alloc);
+        part.push((0, NewNode::Element { name, attrs }))?;
+        part.push((1, NewNode::Text(Text::new(alloc))))?;
+        part.push((0, NewNode::Comment(Text::new(alloc))))?;
+        assert_eq!(rt; dom.graft(0, 1, part)?, 3);
+        for (n, behind) in [(0, 1), (1, 3), (3, 4), (4, 5), (5, 2)] {
+            assert_eq!(rt; dom.next_in_order(n), Some(behind));
+        }
+        assert_eq!(rt; dom.parent(4), Some(3));
+        assert_eq!(rt; dom.previous(2), Some(5));
+        assert_eq!(rt;
+            dom.graft(0, 5, Fragment::new(alloc)),
+            Err(DomError::BadPlace(5))
+        );
+        assert_eq!(rt; dom.count(), 5);
+        assert_eq!(rt; dom.graft(3, 1, Fragment::new(alloc)), Ok(6));
         Ok(())
     }
 

@@ -1,11 +1,11 @@
 //! Places for new nodes, and how a node is linked in at one.
-ghost use Rattle.std.specs.Prelude.{◌≡◌, ℕ, ◌<◌, ◌≤◌, ◌∷◌, [], ◌++◌, ◌^◌, length, true, Some, None, IfSome, IfNone, IfOk, IfErr, OnOk, OnErr};
-ghost use Rattle.page_tree.specs.Forest.{rooted, head, depth_in, empty};
+ghost use Rattle.std.specs.Prelude.{◌≡◌, ℕ, ◌<◌, ◌≤◌, ◌++◌, ◌^◌, length, replicate, true, Some, None, IfSome, IfNone, IfOk, IfErr, OnOk, OnErr};
+ghost use Rattle.page_tree.specs.Forest.{rooted, head, depth_in};
 ghost use Rattle.page_tree.specs.Edits.{children_of};
 ghost use Rattle.dom_arena.specs.Contents.{may_hold, new_content, payload_of};
 ghost use Rattle.dom_arena.specs.Linked.{Stands, tree_of, kids_of, before_place, from_place};
 ghost use Rattle.dom_arena.specs.Refusals.{place_refused, limits_refused};
-ghost use Rattle.dom_arena.specs.Slots.{slot_at, cell, IsUsed, with_link, with_back_link};
+ghost use Rattle.dom_arena.specs.Slots.{free, slot_at, IsUsed, with_link, with_back_link, put};
 
 use crate::kinds::{NewNode, Payload};
 use crate::refusals::DomError;
@@ -145,6 +145,37 @@ fn link_from_after(table: &mut Table, n: u32, parent: u32, after: u32)
     }
 }
 
+// Writes a new node into its slot, and links it in between two siblings, 0 standing for none.
+pub(crate) fn put_between(
+    table: &mut Table,
+    n: u32,
+    parent: u32,
+    before: u32,
+    after: u32,
+    node: NewNode,
+)
+    requires inside { n < length table.old }
+    requires parent { IsUsed table.old parent }
+    requires before { (before ≡ 0 → ⊥) → IsUsed table.old before }
+    requires after { (after ≡ 0 → ⊥) → IsUsed table.old after }
+    ensures { table.new ≡ put n parent before after (new_content node) table.old }
+{
+    let payload = make_payload(node);
+    table.set(
+        n,
+        Slot {
+            parent,
+            first_child: 0,
+            last_child: 0,
+            next: after,
+            previous: before,
+            payload,
+        },
+    );
+    link_from_before(table, n, parent, before);
+    link_from_after(table, n, parent, after);
+}
+
 // Gives the next number to a node, and links it in between two siblings, 0 standing for none.
 pub(crate) fn push_between(
     table: &mut Table,
@@ -158,20 +189,11 @@ pub(crate) fn push_between(
     requires before { (before ≡ 0 → ⊥) → IsUsed table.old before }
     requires after { (after ≡ 0 → ⊥) → IsUsed table.old after }
     ensures number { IfOk result (λ n. n ≡ length table.old) }
-    ensures made { OnOk result (table.new ≡ with_back_link (length table.old) parent after (with_link (length table.old) parent before (table.old ++ cell parent empty after before (new_content node) ∷ []))) }
+    ensures made { OnOk result (table.new ≡ put (length table.old) parent before after (new_content node) (table.old ++ replicate 1 free)) }
     ensures err { OnErr result (table.new ≡ table.old) }
 {
     let n = table.len() as u32;
-    let payload = make_payload(node);
-    table.push(Slot {
-        parent,
-        first_child: 0,
-        last_child: 0,
-        next: after,
-        previous: before,
-        payload,
-    })?;
-    link_from_before(table, n, parent, before);
-    link_from_after(table, n, parent, after);
+    table.push_free(1)?;
+    put_between(table, n, parent, before, after, node);
     Ok(n)
 }

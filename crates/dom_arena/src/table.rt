@@ -1,10 +1,10 @@
 //! The slots of all nodes by number. All access to them goes through here.
-ghost use Rattle.std.specs.Prelude.{◌≡◌, [], ◌∷◌, ◌++◌, length, slice_set, OnOk, OnErr, IfSome, IfNone};
+ghost use Rattle.std.specs.Prelude.{◌≡◌, ◌<◌, [], ◌∷◌, ◌++◌, length, replicate, slice_set, OnOk, OnErr, IfSome, IfNone};
 ghost use Rattle.std.specs.Str.{str_to_ascii_lowercase};
 ghost use Rattle.page_tree.specs.Edits.{with_attr, without_attr};
 ghost use Rattle.page_tree.specs.Trees.{AreAttributes, IsLowerCase};
 ghost use Rattle.dom_arena.specs.Attributes.{attrs_in, with_attrs};
-ghost use Rattle.dom_arena.specs.Slots.{slot_at, IsUsed, with_payload};
+ghost use Rattle.dom_arena.specs.Slots.{free, slot_at, IsUsed, with_payload};
 ghost use Rattle.dom_arena.specs.declared.kinds.Payload.TheVariants.{Free};
 
 use crate::attrs::{drop_attr, set_attr};
@@ -63,6 +63,22 @@ impl Table {
     {
         self.slots.push(slot)?;
         Ok(())
+    }
+
+    /// Gives so many further numbers to no node. It takes all memory or none.
+    pub(crate) fn push_free(&mut self, count: usize) -> Result<(), AllocError>
+        ensures ok { OnOk result (self.new ≡ self.old ++ replicate count free) }
+        ensures err { OnErr result (self.new ≡ self.old) }
+    {
+        fill_up(&mut self.slots, count)
+    }
+
+    /// Puts another slot in place of that of n.
+    pub(crate) fn set(&mut self, n: u32, slot: Slot)
+        requires { n < length self.old }
+        ensures { self.new ≡ slice_set self.old n slot }
+    {
+        self.slots[n as usize] = slot;
     }
 
     /// What the node n is, if there is one.
@@ -181,4 +197,23 @@ impl Table {
         let slot = &mut self.slots[n as usize];
         drop_attr(&mut slot.payload, name);
     }
+}
+
+// Adds so many free slots, or none where there is no memory for all.
+fn fill_up(slots: &mut Vec<Slot>, count: usize) -> Result<(), AllocError>
+    ensures ok { OnOk result (slots.new.items ≡ slots.old.items ++ replicate count free) }
+    ensures err { OnErr result (slots.new.items ≡ slots.old.items) }
+{
+    slots.reserve(count)?;
+    for _step in 0..count {
+        slots.push(Slot {
+            parent: 0,
+            first_child: 0,
+            last_child: 0,
+            next: 0,
+            previous: 0,
+            payload: Payload::Free,
+        })?;
+    }
+    Ok(())
 }
