@@ -105,6 +105,14 @@ nodes_from number elements (p ∷ pieces) =
 abbrev pub nodes_of : List ℕ → List PageNode
 nodes_of source = nodes_from 1 [] (map (λ (t : Token). t.piece) (tokens source))
 
+-- a node by how many elements it stands in, and what it is
+abbrev pub by_depth : PageNode → ℕ × Content
+by_depth n = (n.depth, n.content)
+
+-- the nodes of a source as a fragment has them: in order, each with how many elements it stands in
+abbrev pub fragment : List ℕ → List (ℕ × Content)
+fragment source = map by_depth (nodes_of source)
+
 -- the nodes put into a tree in order, each as the last child of its parent
 abbrev pub with_nodes : Tree → List PageNode → Tree
 with_nodes t [] = t

@@ -3,7 +3,7 @@ use Rattle.std.specs.Prelude.{◌≡◌, ℕ, List, [], ◌∷◌, codes, refl, 
 use lib.Utf8.{encode}
 use Rattle.page_tree.specs.Forest.{element, text, comment, empty, node}
 use Rattle.html_meaning.specs.Elements.{has_content, holds_raw_text, implied_ends, void_elements, self_closing_elements, paragraph_enders}
-use Rattle.html_meaning.specs.Page.{page, nodes_of, PageNode, element_attributes}
+use Rattle.html_meaning.specs.Page.{page, fragment, nodes_of, PageNode, element_attributes}
 
 -- the numbers of the parents of a page's nodes, in order
 abbrev parents : List ℕ → List ℕ
@@ -45,6 +45,16 @@ raw_text_and_doctype = refl
 
 no_page : page [] ≡ record { nodes = empty; next = 1 }
 no_page = refl
+
+-- the nodes of a source with their depths
+
+nodes_with_depths : fragment (codes "<ul><li>a<li><!--b--></ul>c") ≡
+    (0, element (codes "ul") []) ∷ (1, element (codes "li") []) ∷ (2, text (codes "a")) ∷ (1, element (codes "li") [])
+    ∷ (2, comment (codes "b")) ∷ (0, text (codes "c")) ∷ []
+nodes_with_depths = refl
+
+fragment_of_nothing : fragment (codes "</b><!doctype html><b") ≡ []
+fragment_of_nothing = refl
 
 -- texts side by side aren't joined
 texts : parents (codes "a</b>b") ≡ 0 ∷ 0 ∷ []

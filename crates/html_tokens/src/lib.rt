@@ -11,7 +11,11 @@ mod rules;
 mod scan;
 mod tokens;
 
-pub use tokens::{Span, Tag, Token, Tokens};
+pub use attributes::{FoundAttribute, next_attribute};
+pub use cos_source::Span;
+pub use places::{after, begins, byte};
+pub use rules::behind;
+pub use tokens::{Tag, Token, Tokens};
 
 #[cfg(test)]
 mod tests {

@@ -1,6 +1,6 @@
 // The rules of the tokens, each as the code that reads the token at the front.
 
-ghost use Rattle.std.specs.Prelude.{◌≡◌, ◌<◌, ◌≤◌, ◌-◌, ◌+◌, IsTrue, length, slice_index, take, drop, codes, true, false, MatchOption, [], ◌∷◌, ◌&&◌};
+ghost use Rattle.std.specs.Prelude.{◌≡◌, ◌<◌, ◌≤◌, ◌-◌, ◌+◌, ℕ, List, IsTrue, length, slice_index, take, drop, codes, true, false, MatchOption, [], ◌∷◌, ◌&&◌};
 ghost use Rattle.std.specs.Bool.{nat_lt};
 ghost use Rattle.html_meaning.specs.Bytes.{begins, begins_like, up_to};
 ghost use Rattle.html_meaning.specs.Tokens.{comment, bogus_comment, doctype, tag, text, raw_text, first, is_angle, ends_comment, is_bogus_comment, is_start, is_end, begins_raw_text, ends_raw_text, to_tag_end, is_self_closing};
@@ -14,7 +14,7 @@ use crate::places::{
     Angle, CommentEnd, NameEnd, Opening, Place, RawTextEnd, begins, begins_like, ends_raw_text,
     is_bogus_comment, is_end, is_start,
 };
-use crate::scan::{is_self_closing, to_tag_end, up_to};
+use crate::scan::{is_self_closing, to_tag_end, up_to, up_to_lead};
 
 /// A token without its places.
 #[derive(Clone, Copy)]
@@ -62,6 +62,16 @@ fn cut<'a, P: Place>(place: &P, text: &'a str) -> (&'a str, &'a str)
     text.split_at(up_to(place, text.as_bytes()))
 }
 
+// The same for a place that begins with this byte wherever it passes.
+fn cut_lead<'a, P: Place>(place: &P, lead: u8, text: &'a str) -> (&'a str, &'a str)
+    requires { (rest : List ℕ) → P.here place.now rest ≡ true → slice_index rest 0 ≡ lead }
+    ensures front { result.0.now ≡ take (up_to (P.here place.now) text.now) text.now }
+    ensures back { result.1.now ≡ drop (up_to (P.here place.now) text.now) text.now }
+    ensures here { 0 < length result.1.now → P.here place.now result.1.now ≡ true }
+{
+    text.split_at(up_to_lead(place, lead, text.as_bytes()))
+}
+
 /// What stands behind the first bytes, of which the last is ASCII.
 pub fn behind(text: &str, count: usize) -> &str
     requires within { count ≤ length text.now }
@@ -76,7 +86,7 @@ pub fn behind(text: &str, count: usize) -> &str
 fn behind_angle(text: &str) -> &str
     ensures { result.now ≡ drop (up_to is_angle text.now + 1) text.now }
 {
-    let rest = cut(&Angle, text).1;
+    let rest = cut_lead(&Angle, b'>', text).1;
     if rest.is_empty() {
         rest
     } else {
@@ -88,7 +98,7 @@ fn behind_angle(text: &str) -> &str
 fn behind_comment_end(text: &str) -> &str
     ensures { result.now ≡ drop (up_to ends_comment text.now + 3) text.now }
 {
-    let rest = cut(&CommentEnd, text).1;
+    let rest = cut_lead(&CommentEnd, b'-', text).1;
     if rest.is_empty() {
         rest
     } else {
@@ -110,7 +120,7 @@ fn comment(source: &str) -> Found<'_>
     ensures { Reads result (comment source.now) source.now }
 {
     let inner = behind(source, 2);
-    let front = cut(&CommentEnd, inner).0;
+    let front = cut_lead(&CommentEnd, b'-', inner).0;
     Found {
         piece: Piece::Comment {
             text: behind_two(front),
@@ -125,7 +135,7 @@ fn bogus_comment(source: &str) -> Found<'_>
     ensures { Reads result (bogus_comment source.now) source.now }
 {
     let inner = behind(source, 2);
-    let text = cut(&Angle, inner).0;
+    let text = cut_lead(&Angle, b'>', inner).0;
     Found {
         piece: Piece::Comment { text },
         rest: behind_angle(source),
@@ -146,7 +156,7 @@ fn doctype(source: &str) -> Found<'_>
 fn text(source: &str) -> Found<'_>
     ensures { Reads result (text source.now) source.now }
 {
-    let (text, rest) = cut(&Opening, source);
+    let (text, rest) = cut_lead(&Opening, b'<', source);
     Found {
         piece: Piece::Chars { text, raw: false },
         rest,
@@ -157,10 +167,11 @@ fn text(source: &str) -> Found<'_>
 fn raw_text<'a>(name: &str, source: &'a str) -> Found<'a>
     ensures { Reads result (raw_text name.now source.now) source.now }
 {
-    let (text, rest) = cut(
+    let (text, rest) = cut_lead(
         &RawTextEnd {
             name: name.as_bytes(),
         },
+        b'<',
         source,
     );
     Found {

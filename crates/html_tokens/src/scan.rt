@@ -1,12 +1,13 @@
 // How far it is to a place.
 
-ghost use Rattle.std.specs.Prelude.{◌≡◌, ◌<◌, ◌≤◌, ◌-◌, length, slice_index, take, drop, suc, true};
+ghost use Rattle.std.specs.Prelude.{◌≡◌, ◌<◌, ◌≤◌, ◌-◌, ℕ, List, length, slice_index, take, drop, suc, true};
 ghost use Rattle.html_meaning.specs.Bytes.{up_to};
 ghost use Rattle.html_meaning.specs.Tokens.{no_space, attribute, to_tag_end, is_self_closing, more_in_tag, with_value};
 ghost use Rattle.html_tokens.specs.Extents.{AreCuts, IsExtent};
 ghost use Rattle.std.specs.Str.{IsCharBoundary, IsUtf8};
 
 use crate::places::{AttributeNameEnd, Place, UnquotedValueEnd, after, byte, is_between, is_quote};
+use memchr::memchr;
 
 /// How many bytes stand before the first place that passes, all where none does.
 pub fn up_to<P: Place>(place: &P, bytes: &[u8]) -> usize
@@ -23,6 +24,25 @@ pub fn up_to<P: Place>(place: &P, bytes: &[u8]) -> usize
         passed += 1;
     }
     passed
+}
+
+/// The same for a place that begins with this byte wherever it passes, which is looked for first.
+pub fn up_to_lead<P: Place>(place: &P, lead: u8, bytes: &[u8]) -> usize
+    requires { (rest : List ℕ) → P.here place.now rest ≡ true → slice_index rest 0 ≡ lead }
+    ensures value { result ≡ up_to (P.here place.now) bytes.now }
+    ensures within { result ≤ length bytes.now }
+    ensures ascii { result < length bytes.now → slice_index bytes.now result < 128 }
+    ensures here { result < length bytes.now → P.here place.now (drop result bytes.now) ≡ true }
+{
+    let mut passed = 0;
+    while let Some(more) = memchr(lead, after(bytes, passed)) {
+        passed += more;
+        if place.holds(after(bytes, passed)) {
+            return passed;
+        }
+        passed += 1;
+    }
+    bytes.len()
 }
 
 /// How many bytes of white space stand at the front.

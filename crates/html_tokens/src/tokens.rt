@@ -7,14 +7,8 @@ ghost use Rattle.html_tokens.specs.Seen.{token_of};
 
 use crate::attributes::next_attribute;
 use crate::rules::{Piece, first, holds_raw_text};
+use cos_source::Span;
 use std::marker::Model;
-
-/// Where a token begins and ends in its source, in bytes from 0: it takes the bytes from `from` on and before `to`.
-#[derive(Clone, Copy)]
-pub struct Span {
-    pub from: usize,
-    pub to: usize,
-}
 
 /// A start tag.
 #[derive(Clone, Copy)]

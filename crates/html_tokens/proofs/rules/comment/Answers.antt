@@ -11,7 +11,7 @@ returns c =
     let u = up_to ends_comment (drop 2 source) in
     record {
       piece = ap Comment
-          (c.behind_two.ensures ∙ ap (drop 2) (c.cut.ensures.front ∙ ap (λ bs. take (up_to ends_comment bs) bs) c.behind-inner.ensures)
+          (c.behind_two.ensures ∙ ap (drop 2) (c.cut_lead.ensures.front ∙ ap (λ bs. take (up_to ends_comment bs) bs) c.behind-inner.ensures)
           ∙ comment_text (drop 2 source) u ∙ ap (take _) (drop-drop 2 2 source));
       rest = c.behind_comment_end.ensures ∙ ap (λ bs. drop (up_to ends_comment bs + 3) bs) c.behind-inner.ensures ∙ comment_rest source u;
     }
