@@ -1,149 +1,142 @@
--- The tree of a page is the tree that the chain of open elements leads to.
-use Rattle.std.proofs.Common.{◌≡◌, ℕ, suc, ◌-◌, ◌≤◌, ⊎_elim, true, false, cond, List, [], ◌∷◌, length, refl, arith, ap, sym, ◌∙◌, Option, Some, None}
-use Rattle.std.specs.Prelude.{◌==◌, option_map, option_and_then}
-use Rattle.std.proofs.lemmas.Bool.{eq-eqb, ne_eqb, cases_Bool, cond-true, cond-false}
-use Rattle.page_tree.specs.Forest.{Content, element, text, empty, node, Tree}
-use Rattle.page_tree.specs.Edits.{appended}
-use Rattle.html_tree.specs.declared.reader.OpenElement.{OpenElement}
-use Rattle.html_tree.specs.declared.names.Tag.{Tag}
-use Rattle.html_tree.specs.Pieces.{tag_text, Piece, opening, closing, words, pieces}
-use Rattle.html_tree.specs.Page.{Opening, holder, number_of, ends, same_tag, Row, rows_from, with_rows, no_nodes, is_within_limits, within_limits, tidy_page}
-use Rattle.html_tree.specs.Chain.{State, start, parent_of, advanced, limited, step, finished, IsState}
-use Rattle.html_tree.proofs.States.{advanced_state, advanced_past, start_state}
+-- The tree by parents is the tree by depths.
+use Rattle.std.proofs.Common.{◌≡◌, ℕ, suc, ◌+◌, ◌≤◌, ⊎_elim, Bool, true, false, cond, List, [], ◌∷◌, ◌++◌, length, take, refl, arith, ap, sym, ◌∙◌, subst, map}
+use Rattle.std.proofs.lemmas.List.{append-nil, length-map}
+use Rattle.std.proofs.Math.Seq.{take-append_seam}
+use Rattle.std.proofs.lemmas.Bool.{cases_Bool, eqb-true, eq-eqb, both_ways}
+use Rattle.std.specs.Prelude.{◌==◌}
+use Rattle.page_tree.specs.Forest.{Content, element, text, comment, Forest, empty, node, Tree, rooted, same, count, size}
+use Rattle.html_meaning.specs.Tokens.{Piece, Token, tokens, Start, End, Chars, Comment, Doctype, Cut}
+use Rattle.html_meaning.specs.Elements.{has_content}
+use Rattle.html_meaning.specs.References.{resolved}
+use Rattle.std.specs.Str.{str_to_ascii_lowercase}
+use Rattle.html_meaning.specs.Page.{OpenElement, Role, Leaf, Nothing, opened, innermost, PageNode, by_depth, fragment, nodes_of, page, with_nodes, left_by, role_of, nodes_from, element_attributes}
+use Rattle.page_tree.specs.Fragments.{hung, with_nodes_at, fragment_nodes, with_fragment}
+use Rattle.html_tree.specs.Rising.{Rises}
+use Rattle.html_tree.proofs.Closing.{Below}
+use Rattle.html_tree.proofs.Spine.{OnSpine, added_last, count-hung, size-hung, spine-front, spine-hung}
+use Rattle.html_tree.proofs.Fronts.{left_is_front, rises-take, below-take, rises-push}
 
--- what holds of an option holds in its cases
-pub option_cases : {A : Type 0} (o : Option A) (P : Option A → Type 0) → (o ≡ None → P None) → ((x : A) → o ≡ Some x → P (Some x)) → P o
-option_cases None P n s = n refl
-option_cases (Some x) P n s = s x refl
+-- the state between two tokens: the next number, the open elements and the nodes so far
+pub record Goes (number : ℕ) (elements : List OpenElement) (f : Forest) : Type 0 where
+  pub spine : OnSpine elements f
+  pub rises : Rises 0 elements
+  pub below : Below number elements
+  pub once : (k : ℕ) → count k (rooted f) ≤ 1
+  pub free : (k : ℕ) → number ≤ k → count k (rooted f) ≡ 0
 
--- where the pieces lead from a state, limits aside
-abbrev pub grown : List Piece → State → Option Tree
-grown [] s = finished s.chain s.tree
-grown (p ∷ ps) s = option_and_then (grown ps) (advanced p s)
+pub goes-front : (n number : ℕ) (elements : List OpenElement) (f : Forest) → Goes number elements f → Goes number (take n elements) f
+goes-front n number elements f g = record {
+  spine = spine-front n elements f g.spine;
+  rises = rises-take n 0 elements g.rises;
+  below = below-take n number elements g.below;
+  once = g.once;
+  free = g.free;
+}
 
--- where the pieces lead from a state
-abbrev pub steps : List Piece → State → Option Tree
-steps [] s = finished s.chain s.tree
-steps (p ∷ ps) s = option_and_then (steps ps) (step p s)
+pub goes-left : (role : Role) (number : ℕ) (elements : List OpenElement) (f : Forest) → Goes number elements f → Goes number (left_by role elements) f
+goes-left role number elements f g =
+    let front = left_is_front role elements g.rises in
+    subst (λ s. Goes number s f) (sym front.1) (goes-front front.0 number elements f g)
 
--- the open elements are what pieces at each level up to theirs stand in
-abbrev pub IsHeld : List Opening → List OpenElement → Type 0
-IsHeld earlier [] = Unit {0}
-IsHeld earlier (o ∷ outer) = (holder (suc (length outer)) earlier ≡ Some (record { number = o.number; tag = o.tag; level = length outer })) × IsHeld earlier outer
+pub below-push : (number : ℕ) (elements : List OpenElement) (name : List ℕ) → Below number elements → Below (suc number) (elements ++ record { number = number; name = name } ∷ [])
+below-push number [] name b = (omega arith, tt)
+below-push number (s ∷ elements) name b = (omega (arith, b.0), below-push number elements name b.1)
 
--- no opening is one level above level 0
-pub not_zero : (n : ℕ) → (suc n == 0) ≡ false
-not_zero n = ne_eqb (suc n) 0 (λ e. omega (arith, e))
+pub same_cases : (k n : ℕ) → (P : ℕ → Type 0) → (k ≡ n → P 1) → ((k ≡ n → ⊥) → P 0) → P (same k n)
+same_cases k n P p q =
+    ⊎_elim (λ t. rw t (p (eqb-true k n t))) (λ f. rw f (q (λ e. both_ways (k == n) f (eq-eqb k n e)))) (cases_Bool (k == n))
 
-pub holder-zero : (earlier : List Opening) → holder 0 earlier ≡ None
-holder-zero [] = refl
-holder-zero (o ∷ earlier) = rw (not_zero o.level) (holder-zero earlier)
+pub goes-opened : (number : ℕ) (under : List OpenElement) (f : Forest) (name : List ℕ) (c : Content) → Goes number under f
+    → Goes (suc number) (under ++ record { number = number; name = name } ∷ []) (hung (length under) (node number c empty empty) f)
+goes-opened number under f name c g =
+    let new = node number c empty empty in
+    let o : OpenElement = record { number = number; name = name } in
+    let counted : (k : ℕ) → count k (hung (length under) new f) ≡ count k f + count k new = λ k. count-hung k (length under) new f in
+    record {
+      spine = spine-hung under o c f g.spine;
+      rises = rises-push 0 under o g.rises g.below (omega arith);
+      below = below-push number under name g.below;
+      once = λ k. (let e = counted k in
+          let p : same k number + count k (rooted f) ≤ 1 = same_cases k number (λ n. n + count k (rooted f) ≤ 1) (λ e. omega (arith, g.free k (omega arith))) (λ _. omega (arith, g.once k)) in
+          omega (arith, e, p));
+      free = λ k h. (let e = counted k in
+          let p : same k number ≡ 0 = same_cases k number (λ n. n ≡ 0) (λ e. absurd (omega arith)) (λ _. refl) in
+          omega (arith, e, p, g.free k (omega arith)));
+    }
 
-pub held_parent : (earlier : List Opening) (chain : List OpenElement) → IsHeld earlier chain → number_of (holder (length chain) earlier) ≡ parent_of chain
-held_parent earlier [] h = ap number_of (holder-zero earlier)
-held_parent earlier (o ∷ outer) h = ap number_of h.0
+pub goes-leaf : (number : ℕ) (under : List OpenElement) (f : Forest) (c : Content) → Goes number under f → Goes (suc number) (under ++ []) (hung (length under) (node number c empty empty) f)
+goes-leaf number under f c g =
+    let o : OpenElement = record { number = number; name = [] } in
+    let all : take (length under) (under ++ o ∷ []) ≡ under ++ [] = take-append_seam under (o ∷ []) ∙ sym (append-nil under) in
+    subst (λ s. Goes (suc number) s (hung (length under) (node number c empty empty) f)) all
+    (goes-front (length under) (suc number) (under ++ o ∷ []) (hung (length under) (node number c empty empty) f) (goes-opened number under f [] c g))
 
--- an opening further in changes nothing for the levels above
-pub held_more : (o : Opening) (earlier : List Opening) (chain : List OpenElement) → length chain ≤ o.level → IsHeld earlier chain → IsHeld (o ∷ earlier) chain
-held_more o earlier [] l h = tt
-held_more o earlier (p ∷ outer) l h =
-    let other : (suc o.level == suc (length outer)) ≡ false = ne_eqb (suc o.level) (suc (length outer)) (λ e. omega (arith, e, l)) in
-    (rw other h.0, held_more o earlier outer (omega (arith, l)) h.1)
+-- a node, and the nodes after it
+pub node_law : (c : Content) (number : ℕ) (under : List OpenElement) (f : Forest) (rest : List PageNode) → Goes number under f
+    → with_nodes (record { nodes = hung (length under) (node number c empty empty) f; next = suc number }) rest
+    ≡ record { nodes = with_nodes_at (suc number) (map by_depth rest) (hung (length under) (node number c empty empty) f); next = suc number + length rest }
+    → with_nodes (record { nodes = f; next = number }) (record { content = c; parent = innermost 0 under; depth = length under } ∷ rest)
+    ≡ record { nodes = with_nodes_at number (map by_depth (record { content = c; parent = innermost 0 under; depth = length under } ∷ rest)) f; next = number + length (record { content = c; parent = innermost 0 under; depth = length under } ∷ rest) }
+node_law c number under f rest g h =
+    let new = node number c empty empty in
+    let t : Tree = record { nodes = f; next = number } in
+    let last : number + 1 ≡ suc number = omega arith in
+    let nodes = with_nodes_at (suc number) (map by_depth rest) (hung (length under) new f) in
+    ap (λ t. with_nodes t rest) (added_last under new t g.spine g.once ∙ ap (λ n. record { nodes = hung (length under) new f; next = n }) last)
+    ∙ h ∙ ap (λ n. record { nodes = nodes; next = n }) (let e : suc number + length rest ≡ number + suc (length rest) = omega arith in e)
 
-pub held_opened : (number : ℕ) (tag : Tag) (earlier : List Opening) (chain : List OpenElement) → IsHeld earlier chain
-    → IsHeld (record { number = number; tag = tag; level = length chain } ∷ earlier) (record { number = number; tag = tag } ∷ chain)
-held_opened number tag earlier chain h =
-    let o : Opening = record { number = number; tag = tag; level = length chain } in
-    let here : (suc (length chain) == suc (length chain)) ≡ true = eq-eqb (suc (length chain)) (suc (length chain)) refl in
-    (rw here refl, held_more o earlier chain (omega arith) h)
+pub by_parents_is_by_depths : (pieces : List Piece) (number : ℕ) (elements : List OpenElement) (f : Forest) → Goes number elements f
+    → with_nodes (record { nodes = f; next = number }) (nodes_from number elements pieces)
+    ≡ record { nodes = with_nodes_at number (map by_depth (nodes_from number elements pieces)) f; next = number + length (nodes_from number elements pieces) }
+by_parents_is_by_depths [] number elements f g = ap (λ n. record { nodes = f; next = n }) (let e : number ≡ number + 0 = omega arith in e)
+by_parents_is_by_depths (End name ∷ pieces) number elements f g =
+    let under = left_by (role_of (End name)) elements in
+    by_parents_is_by_depths pieces number (under ++ []) f (subst (λ s. Goes number s f) (sym (append-nil under)) (goes-left (role_of (End name)) number elements f g))
+by_parents_is_by_depths (Doctype ∷ pieces) number elements f g =
+    let under = left_by Nothing elements in
+    by_parents_is_by_depths pieces number (under ++ []) f (subst (λ s. Goes number s f) (sym (append-nil under)) (goes-left Nothing number elements f g))
+by_parents_is_by_depths (Cut ∷ pieces) number elements f g =
+    let under = left_by Nothing elements in
+    by_parents_is_by_depths pieces number (under ++ []) f (subst (λ s. Goes number s f) (sym (append-nil under)) (goes-left Nothing number elements f g))
+by_parents_is_by_depths (Chars bytes raw ∷ pieces) number elements f g =
+    let under = left_by Leaf elements in
+    let c : Content = text (cond raw bytes (resolved 0 bytes)) in
+    let left = goes-left Leaf number elements f g in
+    node_law c number under f (nodes_from (suc number) (under ++ []) pieces) left
+    (by_parents_is_by_depths pieces (suc number) (under ++ []) (hung (length under) (node number c empty empty) f) (goes-leaf number under f c left))
+by_parents_is_by_depths (Comment bytes ∷ pieces) number elements f g =
+    let under = left_by Leaf elements in
+    let c : Content = comment bytes in
+    let left = goes-left Leaf number elements f g in
+    node_law c number under f (nodes_from (suc number) (under ++ []) pieces) left
+    (by_parents_is_by_depths pieces (suc number) (under ++ []) (hung (length under) (node number c empty empty) f) (goes-leaf number under f c left))
+by_parents_is_by_depths (Start name attrs self_closing ∷ pieces) number elements f g =
+    let role = role_of (Start name attrs self_closing) in
+    let under = left_by role elements in
+    let c : Content = element (str_to_ascii_lowercase name) (element_attributes attrs) in
+    let left = goes-left role number elements f g in
+    let nodes = hung (length under) (node number c empty empty) f in
+    let goes : (holds : Bool) → Goes (suc number) (under ++ cond holds (record { number = number; name = str_to_ascii_lowercase name } ∷ []) []) nodes =
+    λ holds. elim holds as (λ v. Goes (suc number) (under ++ cond v (record { number = number; name = str_to_ascii_lowercase name } ∷ []) []) nodes) [ true ↦ goes-opened number under f (str_to_ascii_lowercase name) c left | false ↦ goes-leaf number under f c left ] in
+    node_law c number under f (nodes_from (suc number) (under ++ opened number role) pieces) left
+    (by_parents_is_by_depths pieces (suc number) (under ++ opened number role) nodes (goes (has_content (str_to_ascii_lowercase name) self_closing)))
 
-pub map-map : {A B C : Type 0} (f : B → C) (g : A → B) (o : Option A) → option_map f (option_map g o) ≡ option_map (λ x. f (g x)) o
-map-map f g None = refl
-map-map f g (Some x) = refl
+pub size-with_nodes_at : (number : ℕ) (part : List (ℕ × Content)) (f : Forest) → size (with_nodes_at number part f) ≡ size f + length part
+size-with_nodes_at number [] f = omega arith
+size-with_nodes_at number (n ∷ part) f =
+    omega (arith, size-with_nodes_at (suc number) part (hung n.0 (node number n.1 empty empty) f), size-hung n.0 (node number n.1 empty empty) f)
 
-pub map-none : {A B : Type 0} (f : A → B) (o : Option A) → o ≡ None → option_map f o ≡ None
-map-none f o e = ap (option_map f) e
-
--- the rows of the pieces, put into the tree, are where the pieces lead
-pub rows_lead : (ps : List Piece) (chain : List OpenElement) (earlier : List Opening) (t : Tree) → IsHeld earlier chain
-    → option_map (with_rows t) (rows_from t.next (length chain) earlier ps) ≡ grown ps (record { chain = chain; tree = t })
-rows_lead [] [] earlier t h = refl
-rows_lead [] (o ∷ outer) earlier t h = rw (not_zero (length outer)) refl
-rows_lead (opening tag attrs ∷ ps) chain earlier t h =
-    let c : Content = element (tag_text tag) attrs in
-    let this : Opening = record { number = t.next; tag = tag; level = length chain } in
-    let p = number_of (holder (length chain) earlier) in
-    let after : Tree = appended p (node t.next c empty empty) t in
-    let row : Row = record { parent = p; content = c } in
-    let number : suc t.next ≡ after.next = omega arith in
-    map-map (with_rows t) (λ rows. row ∷ rows) (rows_from (suc t.next) (suc (length chain)) (this ∷ earlier) ps)
-    ∙ ap (λ n. option_map (with_rows after) (rows_from n (suc (length chain)) (this ∷ earlier) ps)) number
-    ∙ rows_lead ps (record { number = t.next; tag = tag } ∷ chain) (this ∷ earlier) after (held_opened t.next tag earlier chain h)
-    ∙ ap (λ p. grown ps (record { chain = record { number = t.next; tag = tag } ∷ chain; tree = appended p (node t.next c empty empty) t })) (held_parent earlier chain h)
-rows_lead (words bytes ∷ ps) chain earlier t h =
-    let c : Content = text bytes in
-    let p = number_of (holder (length chain) earlier) in
-    let after : Tree = appended p (node t.next c empty empty) t in
-    let row : Row = record { parent = p; content = c } in
-    let number : suc t.next ≡ after.next = omega arith in
-    map-map (with_rows t) (λ rows. row ∷ rows) (rows_from (suc t.next) (length chain) earlier ps)
-    ∙ ap (λ n. option_map (with_rows after) (rows_from n (length chain) earlier ps)) number
-    ∙ rows_lead ps chain earlier after h
-    ∙ ap (λ p. grown ps (record { chain = chain; tree = appended p (node t.next c empty empty) t })) (held_parent earlier chain h)
-rows_lead (closing tag ∷ ps) [] earlier t h = map-none (with_rows t) _ (rw (holder-zero earlier) refl)
-rows_lead (closing tag ∷ ps) (o ∷ outer) earlier t h =
-    let up : suc (length outer) - 1 ≡ length outer = omega arith in
-    let after : State = record { chain = outer; tree = t } in
-    let rest = rows_from t.next (suc (length outer) - 1) earlier ps in
-    ap (λ o. option_map (with_rows t) (cond (ends tag o) rest None)) h.0
-    ∙ elim (same_tag o.tag tag) as (λ v. option_map (with_rows t) (cond v rest None) ≡ option_and_then (grown ps) (cond v (Some after) None)) [
-      | true ↦ ap (λ n. option_map (with_rows t) (rows_from t.next n earlier ps)) up ∙ rows_lead ps outer earlier t h.1
-      | false ↦ refl
-    ]
-
--- past a limit no tree is reached
-pub finished_past : (chain : List OpenElement) (t : Tree) → is_within_limits t ≡ false → option_and_then within_limits (finished chain t) ≡ None
-finished_past [] t e = cond-false (is_within_limits t) (Some t) None e
-finished_past (o ∷ outer) t e = refl
-
-pub grown_past : (ps : List Piece) (s : State) → IsState s → is_within_limits s.tree ≡ false → option_and_then within_limits (grown ps s) ≡ None
-grown_past [] s i e = finished_past s.chain s.tree e
-grown_past (p ∷ ps) s i e =
-    option_cases (advanced p s) (λ o. option_and_then within_limits (option_and_then (grown ps) o) ≡ None) (λ _. refl)
-    (λ after a. grown_past ps after (advanced_state p s after a i) (advanced_past p s after a i e))
-
-pub finished_within : (chain : List OpenElement) (t : Tree) → is_within_limits t ≡ true → option_and_then within_limits (finished chain t) ≡ finished chain t
-finished_within [] t e = cond-true (is_within_limits t) (Some t) None e
-finished_within (o ∷ outer) t e = refl
-
--- limits may be judged at the end or at each piece
-pub grown_is_steps : (ps : List Piece) (s : State) → IsState s → is_within_limits s.tree ≡ true → option_and_then within_limits (grown ps s) ≡ steps ps s
-grown_is_steps [] s i e = finished_within s.chain s.tree e
-grown_is_steps (p ∷ ps) s i e =
-    option_cases (advanced p s) (λ o. option_and_then within_limits (option_and_then (grown ps) o) ≡ option_and_then (steps ps) (option_and_then limited o)) (λ _. refl)
-    (λ after a. (let j = advanced_state p s after a i in
-    ⊎_elim
-    (λ t. grown_is_steps ps after j t ∙ ap (option_and_then (steps ps)) (sym (cond-true (is_within_limits after.tree) (Some after) None t)))
-    (λ f. grown_past ps after j f ∙ ap (option_and_then (steps ps)) (sym (cond-false (is_within_limits after.tree) (Some after) None f)))
-    (cases_Bool (is_within_limits after.tree))))
-
-pub and_then-map : {A B C : Type 0} (f : B → Option C) (g : A → B) (o : Option A) → option_and_then (λ x. f (g x)) o ≡ option_and_then f (option_map g o)
-and_then-map f g None = refl
-and_then-map f g (Some x) = refl
-
--- the tree of a page, by where its pieces lead
-pub tidy_page_grown : (source : List ℕ) → tidy_page source ≡ option_and_then (λ ps. option_and_then within_limits (grown ps start)) (pieces source)
-tidy_page_grown source =
-    elim (pieces source) as (λ o. option_and_then (λ ps. option_and_then (λ rows. within_limits (with_rows no_nodes rows)) (rows_from 1 0 [] ps)) o ≡ option_and_then (λ ps. option_and_then within_limits (grown ps start)) o) [
-      | None ↦ refl
-      | Some ps ↦ and_then-map within_limits (with_rows no_nodes) (rows_from 1 0 [] ps) ∙ ap (option_and_then within_limits) (rows_lead ps [] [] no_nodes tt)
-    ]
-
--- and by the chain of open elements
-pub tidy_page_is : (source : List ℕ) → tidy_page source ≡ option_and_then (λ ps. steps ps start) (pieces source)
-tidy_page_is source =
-    tidy_page_grown source
-    ∙ elim (pieces source) as (λ o. option_and_then (λ ps. option_and_then within_limits (grown ps start)) o ≡ option_and_then (λ ps. steps ps start) o) [
-      | None ↦ refl
-      | Some ps ↦ grown_is_steps ps start start_state refl
-    ]
+-- the tree of a page is its fragment, put into the empty tree
+pub page_is_fragment : (source : List ℕ) → page source ≡ with_fragment 0 0 (fragment source) (record { nodes = empty; next = 1 })
+page_is_fragment source =
+    let nodes = nodes_of source in
+    let part = map by_depth nodes in
+    let start : Goes 1 [] empty = record {
+      spine = tt;
+      rises = tt;
+      below = tt;
+      once = λ k. (let p : same k 0 ≤ 1 = same_cases k 0 (λ n. n ≤ 1) (λ _. omega arith) (λ _. omega arith) in omega (arith, p));
+      free = λ k h. (let p : same k 0 ≡ 0 = same_cases k 0 (λ n. n ≡ 0) (λ e. absurd (omega arith)) (λ _. refl) in omega (arith, p));
+    } in
+    by_parents_is_by_depths (map (λ (t : Token). t.piece) (tokens source)) 1 [] empty start
+    ∙ ap (λ n. record { nodes = fragment_nodes 1 part; next = n }) (let e : 1 + length nodes ≡ 1 + size (fragment_nodes 1 part) = omega (arith, size-with_nodes_at 1 part empty, length-map nodes by_depth) in e)

@@ -1,76 +1,55 @@
--- Small pages, and the tree that each has.
-use Rattle.std.specs.Prelude.{◌≡◌, [], ◌∷◌, codes, Some, None, refl}
-use Rattle.std.proofs.Common.{lit<}
-use Rattle.page_tree.specs.Forest.{element, text, Forest, empty, node}
-use Rattle.html_tree.specs.declared.names.Tag.TheVariants.{Division, Span}
-use Rattle.html_tree.specs.declared.names.AttributeName.TheVariants.{Class, Id}
-use Rattle.html_tree.specs.Page.{tidy_page, no_nodes}
-use Rattle.html_tree.specs.Spelling.{spelled, AreTidy, AreNumbered}
+-- The words of the reader, computed.
+use Rattle.std.specs.Prelude.{◌≡◌, ℕ, List, [], ◌∷◌, take, codes, true, Some, None, refl}
+use lib.Utf8.{encode}
+use denote.Ref.{Bor}
+use Rattle.page_tree.specs.Fragments.{TooDeep, TooManyNodes}
+use Rattle.html_meaning.specs.Page.{OpenElement, Opens, Ends, left_by}
+use Rattle.html_tree.specs.declared.references.Base.TheVariants.{Decimal, Hexadecimal}
+use Rattle.html_tree.specs.Chain.{names_of, element_names}
+use Rattle.html_tree.specs.Limits.{next_limit}
+use Rattle.html_tree.specs.LaterNames.{as_read, names_in}
+use Rattle.html_tree.specs.Numerals.{is_digit, ends_number}
 
-abbrev page : Forest
-page =
-    node 1 (element (codes "div") ((codes "id", codes "top") ∷ []))
-    (node 2 (element (codes "span") ((codes "class", codes "ad") ∷ [])) (node 3 (text (codes "x")) empty empty) empty) empty
+abbrev spelled : List ℕ → Bor (List ℕ)
+spelled name = record { ref_ptr = (0, 0); now = name }
 
-two_elements : tidy_page (codes "<div id=\"top\"><span class=\"ad\">x</span></div>") ≡ Some (record { nodes = page; next = 4 })
-two_elements = refl
+names_in_lower_case : names_of (spelled (codes "UL") ∷ spelled (codes "Li") ∷ []) ≡ codes "ul" ∷ codes "li" ∷ []
+names_in_lower_case = refl
 
-spelling : spelled page ≡ codes "<div id=\"top\"><span class=\"ad\">x</span></div>"
-spelling = refl
+-- an item and a paragraph in a list
+abbrev elements : List OpenElement
+elements = record { number = 1; name = codes "ul" } ∷ record { number = 2; name = codes "li" } ∷ record { number = 5; name = codes "p" } ∷ []
 
-tidy : AreTidy page × AreNumbered 1 page
-tidy = (
-  (
-    ((Division, refl), ((Id, refl), (refl, (refl, (refl, tt))), refl, tt)),
-    tt,
-    tt,
-    (
-      ((Span, refl), ((Class, refl), (refl, (refl, tt)), refl, tt)),
-      tt,
-      tt,
-      ((lit< tt, (refl, tt)), refl, tt, tt, tt),
-      tt,
-    ),
-    tt,
-  ),
-  (refl, (refl, (refl, tt, tt), tt), tt),
-)
+names_of_elements : element_names elements ≡ codes "ul" ∷ codes "li" ∷ codes "p" ∷ []
+names_of_elements = refl
 
-no_bytes : tidy_page [] ≡ Some no_nodes
-no_bytes = refl
+item_leaves_the_list : left_by (Opens (codes "li") true) elements ≡ take 1 elements
+item_leaves_the_list = refl
 
-bracket_in_a_value : tidy_page (codes "a<b></b>\nc<i class=\"\" id=\" > b\"></i>") ≡ None
-bracket_in_a_value = refl
+end_of_the_item : left_by (Ends (codes "li")) elements ≡ take 1 elements
+end_of_the_item = refl
 
--- a second sibling, and what stands behind an end
-behind_an_end : tidy_page (codes "a<b><i></i>c</b><u id=\"x\" class=\"y z\"></u>") ≡ Some (record {
-  nodes = node 1 (text (codes "a")) empty (node 2 (element (codes "b") [])
-      (node 3 (element (codes "i") []) empty (node 4 (text (codes "c")) empty empty))
-      (node 5 (element (codes "u") ((codes "id", codes "x") ∷ (codes "class", codes "y z") ∷ [])) empty empty));
-  next = 6;
-})
-behind_an_end = refl
+end_of_another : left_by (Ends (codes "div")) elements ≡ elements
+end_of_another = refl
 
-open_at_the_end : tidy_page (codes "<div>") ≡ None
-open_at_the_end = refl
+within_limits : next_limit 510 999999 1 ≡ None
+within_limits = refl
 
-end_without_a_start : tidy_page (codes "</b>") ≡ None
-end_without_a_start = refl
+too_deep : next_limit 511 1000000 1 ≡ Some TooDeep
+too_deep = refl
 
-end_of_another_tag : tidy_page (codes "<b></i>") ≡ None
-end_of_another_tag = refl
+too_many : next_limit 510 1000000 1 ≡ Some TooManyNodes
+too_many = refl
 
-and_sign : tidy_page (codes "a&b") ≡ None
-and_sign = refl
+digits : is_digit Hexadecimal 97 ≡ true
+digits = refl
 
-twice_the_same_name : tidy_page (codes "<b class=\"x\" class=\"y\"></b>") ≡ None
-twice_the_same_name = refl
+no_digit : ends_number Decimal (codes "a;") ≡ true
+no_digit = refl
 
-two_spaces : tidy_page (codes "<b  id=\"x\"></b>") ≡ None
-two_spaces = refl
+attribute_as_read : as_read (codes "ID", codes "a&amp;b") ≡ (codes "id", codes "a&b")
+unfolding encode
+attribute_as_read = refl
 
-byte_of_a_control : tidy_page (127 ∷ []) ≡ None
-byte_of_a_control = refl
-
-another_tag : tidy_page (codes "<p></p>") ≡ None
-another_tag = refl
+names_of_attributes : names_in ((codes "id", codes "a") ∷ (codes "b", []) ∷ []) ≡ codes "id" ∷ codes "b" ∷ []
+names_of_attributes = refl

@@ -1,7 +1,6 @@
-pub mod Bytes
-pub mod Pieces
-pub mod Page
-pub mod Views
+pub mod Rising
 pub mod Chain
-pub mod Spelling
+pub mod Numerals
+pub mod LaterNames
+pub mod Limits
 pub mod Example

@@ -1,29 +1,38 @@
-// The tree of a tidy page.
+// Pages and fragments, read by the chain of open elements.
 
-ghost use Rattle.std.specs.Prelude.{◌≡◌, ◌≢◌, ◌↔◌, ◌++◌, None, Some, true, false, reverse, OnOk, IfOk, option_and_then};
-ghost use Rattle.page_tree.specs.Forest.{Tree};
-ghost use Rattle.page_tree.specs.Trees.{AreAttributes, IsOrdinary};
-ghost use Rattle.dom_arena.specs.Contents.{new_content};
-ghost use Rattle.html_tree.specs.Pieces.{opening, closing, words};
-ghost use Rattle.html_tree.specs.Views.{attr_of, attrs_of, piece_of};
-ghost use Rattle.html_tree.specs.Page.{is_within_limits, tidy_page};
-ghost use Rattle.html_tree.specs.Spelling.{Spells};
-ghost use Rattle.html_tree.specs.Chain.{state, parent_of, placed, step, IsProper, IsState};
+ghost use Rattle.std.specs.Prelude.{◌≡◌, ◌≤◌, ◌+◌, ◌++◌, ◌∷◌, [], ℕ, List, Some, cond, length, map, MatchOption, IfOk, OnOk, IsOkUnless, IsErrAnd, option_map};
+ghost use Rattle.std.specs.Str.{str_to_ascii_lowercase};
+ghost use Rattle.page_tree.specs.Fragments.{IsFragment, limit_passed};
+ghost use Rattle.dom_arena.specs.Contents.{new_content, new_nodes};
+ghost use Rattle.html_meaning.specs.Page.{role_of, opened, content_of, fragment, page};
+ghost use Rattle.html_meaning.specs.References.{resolved};
+ghost use Rattle.page_tree.specs.Forest.{text};
+ghost use Rattle.html_tokens.specs.Seen.{token_of};
+ghost use Rattle.html_tokens.specs.declared.tokens.Token.TheVariants.{Start};
+ghost use Rattle.html_tree.specs.Chain.{names_of, element_names, Leaves};
+ghost use Rattle.html_tree.specs.Limits.{page_error, next_limit, FailsWith};
 ghost use Rattle.html_tree.specs.declared.reader.PageError.TheVariants.{NoMemory};
 
-use crate::names::Tag;
-use crate::pieces::{Attribute, Attributes, Piece, first};
-use dom_arena::{Attrs, Dom, DomError, NewNode};
+use crate::attributes::attrs_of;
+use crate::chain::{left_by_end, left_by_start};
+use crate::references::resolve;
+use crate::tables::has_content;
+use dom_arena::{Dom, Fragment, NewNode};
+use html_tokens::{Tag, Token, Tokens};
 use listed::Text;
+use page_tree::{DEPTH_LIMIT, NODE_LIMIT};
 use std::alloc::{AllocError, Global};
 use thiserror::Error;
 
 /// Why a page is not read.
 #[derive(Debug, Clone, Copy, PartialEq, Eq, Error)]
 pub enum PageError {
-    /// The page is not tidy.
-    #[error("page not yet read")]
-    NotYet,
+    /// A node would stand deeper than `DEPTH_LIMIT`.
+    #[error("page too deep")]
+    TooDeep,
+    /// A node would be one more than `NODE_LIMIT`.
+    #[error("too many nodes")]
+    TooManyNodes,
     #[error("out of memory")]
     NoMemory,
 }
@@ -36,176 +45,166 @@ impl From<AllocError> for PageError {
     }
 }
 
-/// An element whose end is not read yet.
-#[derive(Clone, Copy)]
-struct OpenElement {
-    number: u32,
-    tag: Tag,
+/// How many of the open elements a token leaves.
+fn left_by(chain: &[&str], token: Token) -> usize
+    ensures within { result ≤ length chain.now }
+    ensures left { Leaves (role_of (token_of token.entry).piece) (names_of chain.now) result }
+{
+    match token {
+        Token::Start(tag) => left_by_start(chain, tag.name),
+        Token::End { name, span: _ } => left_by_end(chain, name),
+        Token::Chars {
+            text: _,
+            raw: _,
+            span: _,
+        } => chain.len(),
+        Token::Comment { text: _, span: _ } => chain.len(),
+        Token::Doctype { span: _ } => chain.len(),
+        Token::Cut { span: _ } => chain.len(),
+    }
 }
 
-/// Adds an attribute, if there is one.
-fn push_attr(
-    alloc: Global,
-    attrs: &mut Attrs,
-    attribute: Option<Attribute>,
-) -> Result<(), AllocError>
-    ensures { OnOk result (attrs.new ≡ attrs.old ++ attr_of attribute.entry) }
+/// The name of the element that a token opens, as the source spells it.
+fn opened<'a>(token: Token<'a>) -> Option<&'a str>
+    ensures { MatchOption result ((n : ℕ) → opened n (role_of (token_of token.entry).piece) ≡ [])
+        (λ name. (n : ℕ) → opened n (role_of (token_of token.entry).piece) ≡ record { number = n; name = str_to_ascii_lowercase name.now } ∷ []) }
 {
-    if let Some(attribute) = attribute {
-        let name = Text::of(alloc, attribute.name.as_str())?;
-        let value = Text::of(alloc, attribute.value)?;
-        attrs.push((name, value))?;
+    match token {
+        Token::Start(tag) => if has_content(tag.name, tag.self_closing) {
+            Some(tag.name)
+        } else {
+            None
+        },
+        _ => None,
+    }
+}
+
+/// Puts the element that a token opens behind the open ones, if it opens one.
+fn open_element<'a>(chain: &mut Vec<&'a str>, token: Token<'a>) -> Result<(), AllocError>
+    ensures { OnOk result ((n : ℕ) → names_of chain.new.items ≡ names_of chain.old.items ++ element_names (opened n (role_of (token_of token.entry).piece))) }
+{
+    if let Some(name) = opened(token) {
+        chain.push(name)?;
     }
     Ok(())
 }
 
-/// The attributes of an element, as a tree keeps them.
-fn owned_attrs(alloc: Global, attributes: Attributes) -> Result<Attrs, AllocError>
-    ensures { IfOk result (λ attrs. attrs ≡ attrs_of attributes.entry) }
+/// The element of a start tag.
+fn element(alloc: Global, tag: Tag) -> Result<NewNode, AllocError>
+    ensures { IfOk result (λ node. Some (new_content node) ≡ content_of (token_of (Start tag.entry)).piece) }
 {
-    let mut attrs = Attrs::new(alloc);
-    push_attr(alloc, &mut attrs, attributes.first)?;
-    push_attr(alloc, &mut attrs, attributes.second)?;
-    Ok(attrs)
+    let name = Text::lower(alloc, tag.name)?;
+    let attrs = attrs_of(alloc, tag.attrs)?;
+    Ok(NewNode::Element { name, attrs })
 }
 
-/// The number of the innermost open element, or of the document.
-fn parent_of(chain: &[OpenElement]) -> u32
-    ensures { result ≡ parent_of (reverse chain.now) }
+/// The text of a page, where references in it are resolved unless it is raw.
+fn text(alloc: Global, chars: &str, raw: bool) -> Result<NewNode, AllocError>
+    ensures { IfOk result (λ node. new_content node ≡ text (cond raw chars.now (resolved 0 chars.now))) }
 {
-    match chain.last() {
-        Some(element) => element.number,
-        None => 0,
+    if raw {
+        Ok(NewNode::Text(Text::of(alloc, chars)?))
+    } else {
+        Ok(NewNode::Text(resolve(alloc, chars)?))
     }
 }
 
-/// What is said of the page where its tree refuses a node: but for want of memory, the page passes a limit.
-fn refusal(error: DomError) -> PageError
-    ensures { result ≡ PageError.NotYet → error ≢ DomError.NoMemory }
+/// The node that a token makes.
+fn node_of(alloc: Global, token: Token) -> Result<Option<NewNode>, AllocError>
+    ensures { IfOk result (λ node. option_map new_content node ≡ content_of (token_of token.entry).piece) }
 {
-    match error {
-        DomError::NoMemory => PageError::NoMemory,
-        _ => PageError::NotYet,
+    match token {
+        Token::Start(tag) => Ok(Some(element(alloc, tag)?)),
+        Token::End { name: _, span: _ } => Ok(None),
+        Token::Chars {
+            text: chars,
+            raw,
+            span: _,
+        } => Ok(Some(text(alloc, chars, raw)?)),
+        Token::Comment {
+            text: chars,
+            span: _,
+        } => Ok(Some(NewNode::Comment(Text::of(alloc, chars)?))),
+        Token::Doctype { span: _ } => Ok(None),
+        Token::Cut { span: _ } => Ok(None),
     }
 }
 
-/// Puts a node behind the last child of the innermost open element, and answers its number.
-fn place(dom: &mut Dom, chain: &[OpenElement], node: NewNode) -> Result<u32, PageError>
-    requires state { IsState (state chain.now dom.old) }
-    requires ordinary { IsOrdinary (new_content node) }
-    ensures placed { OnOk result (dom.new ≡ placed (new_content node) (state chain.now dom.old)) }
-    ensures within { OnOk result (is_within_limits dom.new ≡ true) }
-    ensures number { IfOk result (λ n. n ≡ dom.old.next) }
-    ensures not_yet { result ≡ Err PageError.NotYet
-        → is_within_limits (placed (new_content node) (state chain.now dom.old)) ≡ false }
+/// The depth in a fragment of the node that stands in `within` of its elements and behind `before` of its nodes, or the limit
+/// that this node passes.
+fn checked_depth(
+    parent_depth: u32,
+    live: u32,
+    within: usize,
+    before: usize,
+) -> Result<u32, PageError>
+    ensures { MatchOption (next_limit parent_depth (live + before) within) (result ≡ Ok within) (λ limit. result ≡ Err (page_error limit)) }
 {
-    dom.is_tree();
-    let number = match dom.append(parent_of(chain), node) {
-        Ok(number) => number,
-        Err(error) => return Err(refusal(error)),
-    };
-    dom.is_tree();
-    Ok(number)
+    if within >= DEPTH_LIMIT as usize || parent_depth >= DEPTH_LIMIT - within as u32 {
+        Err(PageError::TooDeep)
+    } else if before >= NODE_LIMIT as usize || live >= NODE_LIMIT - before as u32 {
+        Err(PageError::TooManyNodes)
+    } else {
+        Ok(within as u32)
+    }
 }
 
-/// Puts a text into the innermost open element.
-fn add_text(
-    alloc: Global,
-    dom: &mut Dom,
-    chain: &[OpenElement],
-    text: &str,
+/// Adds a node that stands in `within` elements of a fragment, unless it passes a limit.
+fn push_node(
+    part: &mut Fragment,
+    parent_depth: u32,
+    live: u32,
+    within: usize,
+    node: NewNode,
 ) -> Result<(), PageError>
-    requires { IsState (state chain.now dom.old) }
-    ensures ok { OnOk result (step (words text.now) (state chain.now dom.old) ≡ Some (state chain.now dom.new)) }
-    ensures not_yet { result ≡ Err PageError.NotYet → step (words text.now) (state chain.now dom.old) ≡ None }
+    ensures answer { MatchOption (next_limit parent_depth (live + length part.old) within)
+        (IsOkUnless result PageError.NoMemory) (λ limit. result ≡ Err (page_error limit)) }
+    ensures nodes { OnOk result (new_nodes part.new ≡ new_nodes part.old ++ (within, new_content node) ∷ []) }
 {
-    let text = Text::of(alloc, text)?;
-    place(dom, chain, NewNode::Text(text))?;
+    let depth = checked_depth(parent_depth, live, within, part.len())?;
+    part.push((depth, node))?;
     Ok(())
 }
 
-/// Puts an element into the innermost open one, and opens it.
-fn open_element(
+/// The nodes of a source, for a place whose parent has this depth in a tree of `live` nodes. The source is gone through once,
+/// and no further than the first node that passes a limit of trees, which is the answer then.
+pub fn read_fragment(
     alloc: Global,
-    dom: &mut Dom,
-    chain: &mut Vec<OpenElement>,
-    tag: Tag,
-    attributes: Attributes,
-) -> Result<(), PageError>
-    requires state { IsState (state chain.old.items dom.old) }
-    requires proper { AreAttributes (attrs_of attributes) }
-    ensures ok { OnOk result (step (opening tag (attrs_of attributes.entry)) (state chain.old.items dom.old)
-        ≡ Some (state chain.new.items dom.new)) }
-    ensures not_yet { result ≡ Err PageError.NotYet
-        → step (opening tag (attrs_of attributes.entry)) (state chain.old.items dom.old) ≡ None }
+    source: &str,
+    parent_depth: u32,
+    live: u32,
+) -> Result<Fragment, PageError>
+    ensures answer { MatchOption (limit_passed parent_depth live (fragment source.now))
+        (IsOkUnless result PageError.NoMemory) (λ limit. FailsWith result (page_error limit)) }
+    ensures nodes { IfOk result (λ part. new_nodes part ≡ fragment source.now) }
+    ensures fragment { IfOk result (λ part. IsFragment (new_nodes part)) }
 {
-    let name = Text::of(alloc, tag.as_str())?;
-    let attrs = owned_attrs(alloc, attributes)?;
-    let number = place(dom, chain, NewNode::Element { name, attrs })?;
-    chain
-        .push(OpenElement { number, tag })
-        .map_err(AllocError::from)?;
-    Ok(())
-}
-
-/// Ends the innermost open element, if it has this tag.
-fn close_element(dom: &Dom, chain: &mut Vec<OpenElement>, tag: Tag) -> Result<(), PageError>
-    ensures ok { OnOk result (step (closing tag) (state chain.old.items dom.now) ≡ Some (state chain.new.items dom.now)) }
-    ensures not_yet { result ≡ Err PageError.NotYet → step (closing tag) (state chain.old.items dom.now) ≡ None }
-{
-    dom.is_tree();
-    match chain.pop() {
-        Some(element) if element.tag == tag => Ok(()),
-        _ => Err(PageError::NotYet),
+    let mut tokens = Tokens::new(source);
+    let mut chain: Vec<&str> = Vec::new(alloc);
+    let mut part = Fragment::new(alloc);
+    while let Some(token) = tokens.next() {
+        let left = left_by(&chain, token);
+        chain.truncate(left);
+        if let Some(node) = node_of(alloc, token)? {
+            push_node(&mut part, parent_depth, live, left, node)?;
+            open_element(&mut chain, token)?;
+        }
     }
+    Ok(part)
 }
 
-/// Takes a piece into the tree so far.
-fn take(
-    alloc: Global,
-    dom: &mut Dom,
-    chain: &mut Vec<OpenElement>,
-    piece: Piece,
-) -> Result<(), PageError>
-    requires state { IsState (state chain.old.items dom.old) }
-    requires proper { IsProper (piece_of piece) }
-    ensures ok { OnOk result (step (piece_of piece.entry) (state chain.old.items dom.old)
-        ≡ Some (state chain.new.items dom.new)) }
-    ensures not_yet { result ≡ Err PageError.NotYet
-        → step (piece_of piece.entry) (state chain.old.items dom.old) ≡ None }
+/// The tree of a page. The source is gone through once, and no further than the first node that passes a limit of trees,
+/// which is the answer then.
+pub fn read_page(alloc: Global, source: &str) -> Result<Dom, PageError>
+    ensures answer { MatchOption (limit_passed 0 0 (fragment source.now))
+        (IsOkUnless result PageError.NoMemory) (λ limit. FailsWith result (page_error limit)) }
+    ensures tree { IfOk result (λ dom. dom ≡ page source.now) }
 {
-    match piece {
-        Piece::Opening { tag, attributes } => open_element(alloc, dom, chain, tag, attributes),
-        Piece::Closing { tag } => close_element(dom, chain, tag),
-        Piece::Words { text } => add_text(alloc, dom, chain, text),
-    }
-}
-
-/// The tree of a tidy page; `NotYet` for every other one. Where memory runs out, `NoMemory`.
-pub fn read_page(alloc: Global, source: &[u8]) -> Result<Dom, PageError>
-    ensures ok { IfOk result (λ dom. tidy_page source.now ≡ Some dom) }
-    ensures not_yet { result ≡ Err PageError.NotYet → tidy_page source.now ≡ None }
-{
+    let part = read_fragment(alloc, source, 0, 0)?;
     let mut dom = Dom::new(alloc)?;
-    let mut chain = Vec::new(alloc);
-    let mut rest = source;
-    while !rest.is_empty() {
-        let Some(found) = first(rest) else {
-            return Err(PageError::NotYet);
-        };
-        take(alloc, &mut dom, &mut chain, found.piece)?;
-        rest = found.rest;
+    match dom.graft(0, 0, part) {
+        Ok(_) => Ok(dom),
+        // the nodes pass no limit, and the document is there, so that there was no memory
+        Err(_) => Err(PageError::NoMemory),
     }
-    if !chain.is_empty() {
-        return Err(PageError::NotYet);
-    }
-    Ok(dom)
-}
-
-/// Which pages are tidy, in a writer's words: a tree is that of a page exactly where it is tidy and the page is its spelling.
-/// A law for proofs; it does nothing.
-pub fn spelling_law(source: &[u8])
-    ensures { (t : Tree) → (tidy_page source.now ≡ Some t) ↔ Spells source.now t }
-{
-    let _source = source;
 }

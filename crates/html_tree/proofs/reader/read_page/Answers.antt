@@ -1,48 +1,23 @@
-use Rattle.std.proofs.Common.{◌≡◌, [], length, ap, sym, ◌∙◌, subst, arith, vec_len}
-use Rattle.std.proofs.lemmas.Bool.{eqb-true, eqb-false}
-use Rattle.std.proofs.lemmas.Result.{err_from_is_err_and}
-use Rattle.html_tree.specs.Views.{found_of}
-use Rattle.html_tree.specs.Chain.{start, state}
-use Rattle.html_tree.proofs.Rests.{first_is, IsRest-shorter}
-use Rattle.html_tree.proofs.Readers.{IsOnWay, way_start, way_step, way_refused, way_none, way_end, way_open}
+use Rattle.std.proofs.Common.{◌≡◌, ◌≤◌, ◌+◌, None, length, arith, ap, sym, ◌∙◌}
+use Rattle.std.proofs.lemmas.List.{length-map}
+use Rattle.page_tree.specs.Forest.{Tree}
+use Rattle.page_tree.specs.Fragments.{with_fragment, limit_passed}
+use Rattle.page_tree.specs.declared.TheConstants.{NODE_LIMIT}
+use Rattle.dom_arena.specs.Contents.{new_nodes}
+use Rattle.html_meaning.specs.Page.{fragment}
+use Rattle.html_tree.proofs.Law.{page_is_fragment}
+use Rattle.html_tree.proofs.PassedLimits.{few_nodes, no_limit}
 use Rattle.html_tree.proofs.reader.read_page.Goals as goal
 
-pub loop-rest-init : goal.loop-rest-init
-loop-rest-init c =
-    let begins : state c.new-chain.result.items c.in_ok-dom.dom ≡ start =
-    ap (λ items. state items c.in_ok-dom.dom) c.new-chain.ensures.items ∙ ap (state []) c.in_ok-dom.ensures in
-    subst (IsOnWay c.args.source.now c.args.source.now) (sym begins) (way_start c.args.source.now)
+pub graft-requires-clause-number : goal.graft-requires-clause-number
+graft-requires-clause-number c =
+    let all = fragment c.args.source.now in
+    let none : limit_passed 0 0 all ≡ None = no_limit (limit_passed 0 0 all) c.read_fragment.result c.in_ok-part.part c.read_fragment.ensures.answer c.in_ok-part.was in
+    let few : 0 + length all ≤ NODE_LIMIT = few_nodes 0 0 all none (omega arith) in
+    let long : length (new_nodes c.in_ok-part.part) ≡ length c.in_ok-part.part = length-map c.in_ok-part.part _ in
+    omega (arith, few, long, ap length c.in_ok-part.ensures.nodes, ap (λ (t : Tree). t.next) c.in_ok-dom.ensures)
 
-pub take-requires-clause-proper : goal.take-requires-clause-proper
-take-requires-clause-proper c = (first_is c.loop-rest.rest.now (found_of c.in-Some.found) (sym c.in-Some.ensures)).1
-
-pub loop-rest-smaller : goal.loop-rest-smaller
-loop-rest-smaller c =
-    IsRest-shorter c.loop-rest.rest.now c.in-Some.found.rest.now (first_is c.loop-rest.rest.now (found_of c.in-Some.found) (sym c.in-Some.ensures)).0
-
-pub loop-rest-preserved : goal.loop-rest-preserved
-loop-rest-preserved c =
-    way_step c.args.source.now c.loop-rest.rest.now (found_of c.in-Some.found) (state c.loop-rest.chain.items c.loop-rest.dom) (state c.take.new.chain.items c.take.new.dom)
-    c.loop-rest.invariant (sym c.in-Some.ensures) c.in_ok-take.ensures.ok
-
-pub returns-in_default-clause-not_yet : goal.returns-in_default-clause-not_yet
-returns-in_default-clause-not_yet c =
-    λ _. way_none c.args.source.now c.loop-rest.rest.now (state c.loop-rest.chain.items c.loop-rest.dom) c.loop-rest.invariant
-    (omega (arith, eqb-false (length c.loop-rest.rest.now) 0 (sym c.is_empty.ensures ∙ c.loop-rest-test.true))) (sym c.in_default.ensures)
-
-pub returns-in_err-take-clause-not_yet : goal.returns-in_err-take-clause-not_yet
-returns-in_err-take-clause-not_yet c =
-    λ e. way_refused c.args.source.now c.loop-rest.rest.now (found_of c.in-Some.found) (state c.loop-rest.chain.items c.loop-rest.dom) c.loop-rest.invariant (sym c.in-Some.ensures)
-    (c.in_err-take.ensures.not_yet (let p = err_from_is_err_and c.from_residual-in_err-take.result c.from_residual-in_err-take.ensures.1 in cc (p.1, p.2, e)))
-
-pub returns-then-not-is_empty-clause-not_yet : goal.returns-then-not-is_empty-clause-not_yet
-returns-then-not-is_empty-clause-not_yet c =
-    λ _. way_open c.args.source.now c.loop-rest.rest.now c.loop-rest.chain.items c.loop-rest.dom c.loop-rest.invariant
-    (eqb-true (length c.loop-rest.rest.now) 0 (sym c.is_empty.ensures ∙ c.loop-rest-test.false))
-    (omega (arith, c.loop-rest.chain.ok.0, eqb-false (vec_len c.loop-rest.chain) 0 (sym c.is_empty-2.ensures ∙ c.if-not-is_empty.true)))
-
-pub returns-clause-ok : goal.returns-clause-ok
-returns-clause-ok c =
-    way_end c.args.source.now c.loop-rest.rest.now c.loop-rest.chain.items c.loop-rest.dom c.loop-rest.invariant
-    (eqb-true (length c.loop-rest.rest.now) 0 (sym c.is_empty.ensures ∙ c.loop-rest-test.false))
-    (omega (arith, c.loop-rest.chain.ok.0, eqb-true (vec_len c.loop-rest.chain) 0 (sym c.is_empty-2.ensures ∙ c.if-not-is_empty.false)))
+pub returns-in-Ok-clause-tree : goal.returns-in-Ok-clause-tree
+returns-in-Ok-clause-tree c =
+    c.in-Ok.ensures.tree ∙ ap (λ part. with_fragment 0 0 part c.in_ok-dom.dom) c.in_ok-part.ensures.nodes
+    ∙ ap (with_fragment 0 0 (fragment c.args.source.now)) c.in_ok-dom.ensures ∙ sym (page_is_fragment c.args.source.now)
