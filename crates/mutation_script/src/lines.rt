@@ -93,7 +93,7 @@ fn attr_line(alloc: Global, rest: Option<&str>) -> Result<Mutation, LineError>
 {
     let (n, rest) = number_field(rest)?;
     let (name, rest) = name_field(rest)?;
-    let name = lower_case(alloc, name)?;
+    let name = Text::lower(alloc, name)?;
     let value = Text::of(alloc, rest.unwrap_or(""))?;
     Ok(Mutation::SetAttr { n, name, value })
 }
@@ -105,13 +105,6 @@ fn unset_line(alloc: Global, rest: Option<&str>) -> Result<Mutation, LineError>
     let (n, rest) = number_field(rest)?;
     let (name, rest) = name_field(rest)?;
     at_end(rest)?;
-    let name = lower_case(alloc, name)?;
+    let name = Text::lower(alloc, name)?;
     Ok(Mutation::DropAttr { n, name })
-}
-
-fn lower_case(alloc: Global, name: &str) -> Result<Text, AllocError>
-    ensures { IfOk result (λ lower. lower ≡ str_to_ascii_lowercase name.now) }
-{
-    let lower = name.to_ascii_lowercase(alloc)?;
-    Text::of(alloc, lower.as_str())
 }
