@@ -1,13 +1,13 @@
 -- How a table and a maker go on agreeing.
-use Rattle.std.proofs.Common.{◌≡◌, ◌↔◌, ◌&&◌, ℕ, Bool, true, false, List, [], ◌∷◌, ◌++◌, Some, None, Ok, Err, IsTrue, arith, refl, ap, sym, ◌∙◌}
+use Rattle.std.proofs.Common.{◌≡◌, ◌↔◌, ℕ, Bool, true, false, List, [], ◌∷◌, ◌++◌, Some, Ok, Err, IsTrue, arith, refl, ap, sym, ◌∙◌}
 use Rattle.std.specs.Result.{IsErrOf}
 use Rattle.std.proofs.lemmas.Grind.{common_steps}
 use Rattle.cos_patterns.specs.declared.written.Asked.{Asked}
 use Rattle.cos_patterns.specs.declared.written.Asked.TheVariants.{Pattern, Address}
 use Rattle.cos_patterns.specs.declared.written.Written.{Written}
-use Rattle.cos_patterns.specs.Written.{is_in, place_of}
-use Rattle.cos_patterns.specs.Tables.{Noted, Agrees, is_noted, with_pattern, patterns_in}
-use Rattle.cos_patterns.proofs.Places.{same_is, in_more, has_place}
+use Rattle.cos_patterns.specs.Written.{is_in, is_same, place_of}
+use Rattle.cos_patterns.specs.Tables.{Noted, Agrees, is_noted, said_of, with_pattern, patterns_in}
+use Rattle.cos_patterns.proofs.Places.{in_more, has_place}
 
 -- one pattern more was refused for size
 pub patterns_in_more : (list : List Asked) (pattern : Written) →
@@ -30,13 +30,6 @@ module _ (pattern : Written) (table : Noted) (large : List Asked) (unread : List
   pub is_not_unread : is_in pattern unread ≡ false
   is_not_unread = sym (agrees.unread pattern) ∙ (not_noted pattern table new).2
 
--- two lists that are apart stay so, where one gets what stands in neither
-pub apart_more : (here there : List Written) (added : Written) → is_in added here ≡ false →
-    ((pattern : Written) → is_in pattern here && is_in pattern there ≡ false) →
-    (pattern : Written) → is_in pattern here && is_in pattern (there ++ added ∷ []) ≡ false
-apart_more here there added new apart pattern =
-    grind (arith, in_more pattern added there, same_is added pattern, apart pattern)
-
 -- an answer that is no error, where the pattern isn't refused
 pub no_error : {T E : Type 0} (value : T) (error : E) (refused : Bool) → refused ≡ false →
     IsErrOf (Ok value) error ↔ IsTrue refused
@@ -45,11 +38,6 @@ no_error value error refused is_not = (λ is. grind arith, λ is. grind arith)
 -- an error, where the pattern is refused so
 pub an_error : {T E : Type 0} (error : E) (refused : Bool) → refused ≡ true → IsErrOf {T = T} (Err error) error ↔ IsTrue refused
 an_error error refused is_so = (λ _. is_so, λ _. refl)
-
--- what stands in none of the lists isn't noted
-pub is_new : (pattern : Written) (table : Noted) → is_in pattern table.large ≡ false → is_in pattern table.unread ≡ false →
-    place_of pattern table.patterns ≡ None → is_noted pattern table ≡ false
-is_new pattern table not_large not_unread no_number = grind (arith, common_steps, has_place pattern table.patterns)
 
 -- a pattern that has a number is put without a change
 pub put_again : (pattern : Written) (patterns : List Written) (number : ℕ) → place_of pattern patterns ≡ Some number →
@@ -70,23 +58,16 @@ agrees_on_large table after large large_now unread unread_now pattern agrees not
   unread = λ other. rw (same, stays) (agrees.unread other);
 }
 
--- and so where the first gets it
-pub more_apart : (here there : List Written) (added : Written) → is_in added there ≡ false →
-    ((pattern : Written) → is_in pattern here && is_in pattern there ≡ false) →
-    (pattern : Written) → is_in pattern (here ++ added ∷ []) && is_in pattern there ≡ false
-more_apart here there added new apart pattern =
-    grind (arith, in_more pattern added here, same_is added pattern, apart pattern)
+-- a list with one pattern more, as to another one
+pub in_others : (list : List Written) (added other : Written) → is_same added other ≡ false → is_in other (list ++ added ∷ []) ≡ is_in other list
+in_others list added other differs = grind (arith, in_more other added list)
 
--- a pattern of one list isn't in the other, where no pattern is in both
-pub not_there : (pattern : Written) (here there : List Written) →
-    is_in pattern here && is_in pattern there ≡ false → is_in pattern here ≡ true → is_in pattern there ≡ false
-not_there pattern here there apart is_here = grind (arith, apart)
+-- a table of these lists
+abbrev pub noted_as : List Written → List Written → List Written → Noted
+noted_as patterns large unread = record { patterns = patterns; large = large; unread = unread }
 
--- a test has one answer
-pub not_both : (test : Bool) → IsTrue test → test ≡ false → ⊥
-not_both test passes fails = grind (arith, fails)
-
--- an error that is another one, where the pattern isn't refused so
-pub another_error : {T E : Type 0} (is error : E) (refused : Bool) → (is ≡ error → ⊥) → refused ≡ false →
-    IsErrOf {T = T} (Err is) error ↔ IsTrue refused
-another_error is error refused differs is_not = (λ same. absurd (differs (grind arith)), λ so. absurd (not_both refused so is_not))
+-- what is said of another pattern, where the table holds one more
+pub said_behind_patterns : (before : Noted) (patterns large unread : List Written) (added other : Written) → is_same added other ≡ false
+    → patterns ≡ before.patterns ++ added ∷ [] → large ≡ before.large → unread ≡ before.unread
+    → said_of other (noted_as patterns large unread) ≡ said_of other before
+said_behind_patterns before patterns large unread added other differs p l u = rw (p, l, u, in_others before.patterns added other differs) refl

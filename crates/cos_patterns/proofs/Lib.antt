@@ -1,4 +1,6 @@
 pub mod Agreement
+pub mod Index
+pub mod NotesLaws
 pub mod Numbers
 pub mod Places
 mod Readings

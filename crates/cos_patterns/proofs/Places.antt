@@ -1,5 +1,5 @@
 -- Where a pattern stands in a list.
-use Rattle.std.proofs.Common.{◌≡◌, ◌<◌, ◌||◌, ℕ, zero, suc, true, false, List, [], ◌∷◌, ◌++◌, length, take, get_or, Some, None, is_some, arith, refl, ap}
+use Rattle.std.proofs.Common.{◌≡◌, ◌<◌, ◌||◌, ℕ, true, false, List, [], ◌∷◌, ◌++◌, length, Some, is_some, arith, refl, ap}
 use Rattle.std.proofs.lemmas.Grind.{common_steps}
 use Rattle.std.proofs.lemmas.Bool.Decides.{nat_tests}
 use Rattle.std.proofs.lemmas.Slice.Eq.{bytes_eq-Decides}
@@ -34,18 +34,6 @@ pub place_within : (pattern : Written) (list : List Written) (place : ℕ) → p
 place_within pattern [] place is = grind (arith, common_steps)
 place_within pattern (first ∷ rest) place is = grind (arith, common_steps, place_within pattern rest)
 
--- the first place where the pattern stands
-pub place_here : (pattern : Written) (list : List Written) (place : ℕ) (here : Written) →
-    place < length list → here ≡ get_or list place here → is_in pattern (take place list) ≡ false →
-    is_same here pattern ≡ true → place_of pattern list ≡ Some place
-place_here pattern [] place here within is before same = absurd (omega arith)
-place_here pattern (first ∷ rest) zero here within is before same = grind (arith, common_steps)
-place_here pattern (first ∷ rest) (suc place) here within is before same =
-    let before_first : is_same first pattern ≡ false = grind (arith, common_steps) in
-    let before_rest : is_in pattern (take place rest) ≡ false = grind (arith, common_steps) in
-    let later = place_here pattern rest place here (omega arith) is before_rest same in
-    rw (before_first, later) (ap Some (omega arith))
-
 -- behind a list without it the pattern has the next place
 pub place_at_end : (pattern : Written) (list : List Written) → is_in pattern list ≡ false →
     place_of pattern (list ++ pattern ∷ []) ≡ Some (length list)
@@ -54,7 +42,3 @@ place_at_end pattern (first ∷ rest) new =
     let not_first : is_same first pattern ≡ false = grind (arith, common_steps) in
     let not_rest : is_in pattern rest ≡ false = grind (arith, common_steps) in
     rw (not_first, place_at_end pattern rest not_rest) (ap Some (omega arith))
-
--- a pattern that doesn't stand in the list has no place
-pub no_place : (pattern : Written) (list : List Written) → is_in pattern list ≡ false → place_of pattern list ≡ None
-no_place pattern list new = grind (arith, common_steps, has_place pattern list)

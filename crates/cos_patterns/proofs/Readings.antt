@@ -1,5 +1,5 @@
 -- From a compiled pattern to what the grammar reads in its text.
-use Rattle.std.proofs.Common.{◌≡◌, ◌≢◌, ℕ, ◌<◌, ◌≤◌, inl, inr, true, List, get_or, length, Option, None, Some, is_some, IsSomeAnd, refl, sym}
+use Rattle.std.proofs.Common.{◌≡◌, ◌≢◌, ℕ, ◌<◌, ◌≤◌, inl, inr, true, List, get_or, length, Option, None, Some, is_some, IsSomeAnd, refl}
 use Rattle.regex_hir.specs.Re.{Re}
 use Rattle.regex_hir.specs.Find.{find_str}
 use Rattle.regex_syntax.specs.Brackets.{Nested}
@@ -12,9 +12,6 @@ use Rattle.regex.specs.Strings.{regex_pattern}
 use Rattle.regex.specs.declared.string.regex.Regex.{Regex}
 use Rattle.regex.proofs.ForCallers.{is_match_alike}
 use Rattle.cos_patterns.specs.Found.{config_of, read_as, is_read, found_by, pattern_found, IsPatternOf, IsUnreadable}
-use Rattle.cos_patterns.specs.declared.written.Written.{Written}
-use Rattle.cos_patterns.specs.Written.{is_same}
-use Rattle.cos_patterns.proofs.Places.{same_is}
 
 -- in a text of bytes a compiled pattern is found where what it was read as is found
 module _ (text : List ℕ) (bytes : (k : ℕ) → get_or text k 0 < 256) where
@@ -38,10 +35,6 @@ there_is (Some p) P is = refl
 pub pattern_reads : (body : List ℕ) (flags : ℕ) (regex : Regex) → IsPatternOf body flags regex → is_read body flags ≡ true
 unfolding Reads read_as
 pattern_reads body flags regex is = there_is (read_as body flags) _ (rw (is.source, is.config) at is.read)
-
--- and so each text that is the same
-pub same_reads : (a b : Written) (regex : Regex) → IsPatternOf a.body a.flags regex → is_same a b ≡ true → is_read b.body b.flags ≡ true
-same_reads a b regex is same = rw (sym (same_is a b same)) (pattern_reads a.body a.flags regex is)
 
 -- a syntax error that isn't want of memory says that the text is unreadable
 pub unreadable_is : (body : List ℕ) (flags : ℕ) (kind : ErrorKind) → Refuses (config_of flags) body kind → kind ≢ OutOfMemory → IsUnreadable body flags

@@ -6,11 +6,13 @@ use Rattle.regex_hir.specs.Re.{attempt}
 use Rattle.regex_hir.specs.Text.{is_boundary, has_bytes_at, byte_before}
 use Rattle.regex.proofs.OnLiterals.{regex_on_literals}
 use Rattle.cos_patterns.specs.declared.errors.MakeError.TheVariants.{Unreadable, TooLarge}
+use Rattle.cos_patterns.specs.declared.notes.Note.TheVariants.{Nothing, Held, Large}
 use Rattle.cos_patterns.specs.declared.written.Asked.{Asked}
 use Rattle.cos_patterns.specs.declared.written.Asked.TheVariants.{Pattern, Address}
 use Rattle.cos_patterns.specs.declared.written.Written.{Written}
 use Rattle.cos_patterns.specs.Found.{read_as, is_read, pattern_found}
 use Rattle.cos_patterns.specs.Makers.{large_after, unread_after}
+use Rattle.cos_patterns.specs.Notes.{note_among, Says}
 use Rattle.cos_patterns.specs.Tables.{patterns_in, is_noted, with_pattern, found_at}
 use Rattle.cos_patterns.specs.Written.{written, is_same, is_in, place_of}
 
@@ -96,3 +98,17 @@ found_by_number = refl
 
 no_such_number : found_at both 2 (codes "cat") ≡ false
 no_such_number = refl
+
+-- the index: what it notes of a text by flags, and what that says
+
+by_flags : note_among (Some (Held 0 ∷ Large ∷ [])) 1 ≡ Large
+by_flags = refl
+
+of_no_text : note_among None 0 ≡ Nothing
+of_no_text = refl
+
+large_says : Says Large (written (codes "a") 1) (record { patterns = []; large = both; unread = [] })
+large_says = (refl, refl)
+
+nothing_says : Says Nothing (written (codes "b") 0) (record { patterns = both; large = []; unread = [] })
+nothing_says = refl

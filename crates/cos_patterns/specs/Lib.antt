@@ -3,6 +3,7 @@ pub mod Example
 pub mod Found
 pub mod ListedMaker
 pub mod Makers
+pub mod Notes
 pub mod Plan
 pub mod Tables
 pub mod Written

@@ -1,5 +1,5 @@
 -- What a table of patterns shows, and when it agrees with a maker.
-use Rattle.std.specs.Prelude.{ℕ, ◌≡◌, Bool, false, ◌&&◌, ◌||◌, List, [], ◌∷◌, ◌++◌, if◌then◌else◌, slice_get, option_map, unwrap_or}
+use Rattle.std.specs.Prelude.{ℕ, ◌≡◌, Bool, false, ◌||◌, List, [], ◌∷◌, ◌++◌, if◌then◌else◌, slice_get, option_map, unwrap_or}
 use Rattle.cos_patterns.specs.declared.written.Asked.{Asked}
 use Rattle.cos_patterns.specs.declared.written.Asked.TheVariants.{Pattern, Address}
 use Rattle.cos_patterns.specs.declared.written.Written.{Written}
@@ -23,13 +23,23 @@ pub record Agrees (table : Noted) (refused_large : List Asked) (refused_unread :
   pub large : (pattern : Written) → is_in pattern table.large ≡ is_in pattern (patterns_in refused_large)
   pub unread : (pattern : Written) → is_in pattern table.unread ≡ is_in pattern refused_unread
 
--- no pattern is noted as refused in both ways, for size and as unreadable
-abbrev pub IsRefusedOneWay : List Written → List Written → Type 0
-IsRefusedOneWay large unread = (pattern : Written) → is_in pattern large && is_in pattern unread ≡ false
-
 -- the table has the answer for this pattern already
 abbrev pub is_noted : Written → Noted → Bool
 is_noted pattern table = is_in pattern table.patterns || (is_in pattern table.large || is_in pattern table.unread)
+
+-- what a table says of a pattern: it is refused for size, or unreadable, or the table holds it, or it isn't noted
+pub data Said : Type 0 where
+  too_large : Said
+  unreadable : Said
+  held : Said
+  unknown : Said
+
+abbrev pub said_by : Bool → Bool → Bool → Said
+said_by is_large is_unread is_held =
+    if is_large then too_large else if is_unread then unreadable else if is_held then held else unknown
+
+abbrev pub said_of : Written → Noted → Said
+said_of pattern table = said_by (is_in pattern table.large) (is_in pattern table.unread) (is_in pattern table.patterns)
 
 -- the patterns by number, after this one was put: a new one stands behind the others
 abbrev pub with_pattern : Written → List Written → List Written

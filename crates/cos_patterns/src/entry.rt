@@ -1,6 +1,5 @@
-ghost use Rattle.std.specs.Prelude.{◌≡◌, IfOk, IsTrue};
-ghost use Rattle.cos_patterns.specs.Found.{is_read, pattern_found, IsPatternOf};
-ghost use Rattle.cos_patterns.specs.Written.{written, is_same};
+ghost use Rattle.std.specs.Prelude.{◌≡◌, IfOk};
+ghost use Rattle.cos_patterns.specs.Found.{pattern_found, IsPatternOf};
 
 use crate::Written;
 use crate::read::finds;
@@ -33,14 +32,6 @@ impl Entry {
         ensures { result ≡ written }
     {
         Entry { written, regex }
-    }
-
-    // Whether it has this text and these flags.
-    pub fn is(&self, body: &str, flags: u8) -> bool
-        ensures same { result ≡ is_same self.now (written body.now flags) }
-        ensures read { IsTrue result → IsTrue (is_read body.now flags) }
-    {
-        self.written.is(body, flags)
     }
 
     // Whether it is found in a text.

@@ -3,7 +3,7 @@
 //! A `Maker` makes both of texts, and tells which it refused: `CrateMaker` asks the crates, and `ListedMaker` also
 //! refuses where a test wants it. A `PatternTable` holds patterns by number and asks its maker for no text twice.
 //! `specs/Found.antt` says when a pattern is found in a text, `Makers.antt` what an answer of a maker does to its lists,
-//! and `Tables.antt` when a table agrees with a maker. `proofs/Numbers.antt` and `Agreement.antt` have laws for callers.
+//! `Tables.antt` when a table agrees with a maker, and `Notes.antt` what its index says of a pattern. `proofs/Numbers.antt` and `Agreement.antt` have laws for callers.
 #![tactic(auto)]
 
 mod crate_maker;
@@ -11,6 +11,7 @@ mod entry;
 mod errors;
 mod listed_maker;
 mod maker;
+mod notes;
 mod read;
 mod table;
 mod written;
@@ -96,6 +97,24 @@ mod tests {
         // The flags are part of what is refused.
         assert_eq!(rt; table.put(&mut maker, "a(b", IGNORES_CASE), bad);
         assert_eq!(rt; table.put(&mut maker, "ab", 0), Ok(0));
+        Ok(())
+    }
+
+    #[test]
+    fn many_patterns_are_put(rt: HostRuntime) -> Result<(), Fail> {
+        let alloc = rt.alloc();
+        let mut maker = CrateMaker::new(alloc);
+        let mut table = PatternTable::new(alloc);
+        for turn in 0..600u32 {
+            // Each text is put under two sums of flags, and all of them twice.
+            let want = turn % 300;
+            let text = format!(in alloc; "x{}", want / 2)?;
+            if 100 < text.len() {
+                return Err(Fail::from("not a row of the table"));
+            }
+            let number = table.put(&mut maker, text.as_str(), (turn % 2) as u8);
+            assert_eq!(rt; number, Ok(want), "{turn}");
+        }
         Ok(())
     }
 

@@ -1,33 +1,40 @@
-ghost use Rattle.std.specs.Prelude.{◌≡◌, ◌+◌, ◌^◌, ◌<◌, ◌↔◌, [], ◌∷◌, ◌++◌, List, length, false, IsTrue, IfOk, OnOk, OnErr, IfSome, OnSome, IsErrOf, vec_len, vec_capacity};
+ghost use Rattle.std.specs.Prelude.{◌≡◌, ◌+◌, ◌<◌, ◌↔◌, [], ◌∷◌, ◌++◌, List, length, false, IsTrue, IfOk, OnOk, OnErr, IsErrOf, vec_len, vec_capacity};
 ghost use Rattle.cos_patterns.specs.declared.written.Asked.{Asked};
+ghost use Rattle.cos_patterns.specs.declared.written.Written.{Written};
 ghost use Rattle.cos_patterns.specs.Found.{is_read};
-ghost use Rattle.cos_patterns.specs.Tables.{Agrees, is_noted, with_pattern, patterns_in, found_at};
-ghost use Rattle.cos_patterns.specs.Written.{written, is_in, place_of};
+ghost use Rattle.cos_patterns.specs.Notes.{Says};
+ghost use Rattle.cos_patterns.specs.Tables.{Agrees, is_noted, with_pattern, patterns_in, found_at, said_of};
+ghost use Rattle.cos_patterns.specs.Written.{written, is_in, is_same, place_of};
 
 use crate::entry::Entry;
+use crate::notes::{Note, Notes};
 use crate::{MakeError, Maker, PatternError, Written};
 use std::alloc::{AllocError, Global};
 use std::marker::Model;
 
 /// Patterns by number, each made once.
 ///
-/// It notes what the maker refused too, so that no text is asked for twice.
+/// It notes what the maker refused too, so that no text is asked for twice. A pattern is looked up by its text, in time that
+/// grows with the logarithm of how many texts are noted.
 #[derive(Drop)]
 pub struct PatternTable {
     alloc: Global,
     patterns: Vec<Entry>,
     large: Vec<Written>,
     unread: Vec<Written>,
+    // What stands in the three lists, by text and flags.
+    notes: Notes,
 }
 
 impl Model for PatternTable {
-    ghost use Rattle.cos_patterns.specs.Tables.{Noted, IsRefusedOneWay};
+    ghost use Rattle.cos_patterns.specs.Notes.{IsIndexOf};
+    ghost use Rattle.cos_patterns.specs.Tables.{Noted};
 
     ghost Value = { Noted };
 
     ghost view = { λ table. record { patterns = table.patterns.items; large = table.large.items; unread = table.unread.items } };
 
-    ghost invariant = { λ table. IsRefusedOneWay table.large.items table.unread.items };
+    ghost invariant = { λ table. IsIndexOf table.notes (record { patterns = table.patterns.items; large = table.large.items; unread = table.unread.items }) };
 }
 
 impl PatternTable {
@@ -44,6 +51,7 @@ impl PatternTable {
             patterns: Vec::new(alloc),
             large: Vec::new(alloc),
             unread: Vec::new(alloc),
+            notes: Notes::new(alloc),
         }
     }
 
@@ -73,45 +81,25 @@ impl PatternTable {
             IsTrue (is_in (written text.now flags) (patterns_in (M.large maker.new))) }
         ensures refused { OnErr result (self.new.patterns ≡ self.old.patterns) }
         ensures no_memory { IsErrOf result PatternError.NoMemory → self.new ≡ self.old }
+        // What is said of a pattern stays: a noted one changes nothing, and another one changes only what is said of it.
+        ensures kept { IsTrue (is_noted (written text.now flags) self.old) → self.new ≡ self.old }
+        ensures others { (other : Written) → is_same (written text.now flags) other ≡ false → said_of other self.new ≡ said_of other self.old }
         ensures asked_once { IsTrue (is_noted (written text.now flags) self.old) → maker.new ≡ maker.old }
     {
-        if self.is_large(text, flags) {
-            return Err(PatternError::PatternTooLarge);
-        }
-        if self.is_unread(text, flags) {
-            return Err(PatternError::BadPattern);
-        }
-        match self.number_of(text, flags) {
-            Some(number) => Ok(number),
-            None => self.ask(maker, text, flags),
+        match self.note_of(text, flags) {
+            Note::Held(number) => Ok(number),
+            Note::Large => Err(PatternError::PatternTooLarge),
+            Note::Unread => Err(PatternError::BadPattern),
+            Note::Nothing => self.ask(maker, text, flags),
         }
     }
 
-    // Whether a pattern is noted as refused for size, and then in no other way.
-    fn is_large(&self, text: &str, flags: u8) -> bool
-        ensures noted { result ≡ is_in (written text.now flags) self.now.large }
-        ensures alone { IsTrue result → is_in (written text.now flags) self.now.unread ≡ false }
+    // What is noted of a pattern.
+    fn note_of(&self, text: &str, flags: u8) -> Note
+        requires { flags < 8 }
+        ensures { Says result (written text.now flags) self.now }
     {
-        stands_in(self.large.as_slice(), text, flags)
-    }
-
-    // Whether a pattern is noted as unreadable.
-    fn is_unread(&self, text: &str, flags: u8) -> bool
-        ensures { result ≡ is_in (written text.now flags) self.now.unread }
-    {
-        stands_in(self.unread.as_slice(), text, flags)
-    }
-
-    // The number of a pattern that the table holds.
-    fn number_of(&self, text: &str, flags: u8) -> Option<u32>
-        requires { length self.now.patterns < 2 ^ 32 }
-        ensures number { result ≡ place_of (written text.now flags) self.now.patterns }
-        ensures read { OnSome result (IsTrue (is_read text.now flags)) }
-    {
-        match place_in(self.patterns.as_slice(), text, flags) {
-            Some(place) => Some(place as u32),
-            None => None,
-        }
+        self.notes.get(text, flags)
     }
 
     // Asks the maker for a pattern that isn't noted, and notes its answer.
@@ -132,24 +120,29 @@ impl PatternTable {
             IsTrue (is_in (written text.now flags) (patterns_in (M.large maker.new))) }
         ensures refused { OnErr result (self.new.patterns ≡ self.old.patterns) }
         ensures no_memory { IsErrOf result PatternError.NoMemory → self.new ≡ self.old }
+        ensures others { (other : Written) → is_same (written text.now flags) other ≡ false → said_of other self.new ≡ said_of other self.old }
     {
         let written = Written::of(self.alloc, text, flags)?;
         // A refusal of the maker always finds room for its note.
         self.patterns.reserve(1)?;
         self.large.reserve(1)?;
         self.unread.reserve(1)?;
+        self.notes.reserve(self.alloc, text)?;
         match maker.pattern(text, flags) {
             Ok(regex) => {
                 let number = self.patterns.len() as u32;
                 push_in_room(&mut self.patterns, Entry::new(written, regex));
+                self.notes.set(text, flags, Note::Held(number));
                 Ok(number)
             }
             Err(MakeError::Unreadable) => {
                 push_in_room(&mut self.unread, written);
+                self.notes.set(text, flags, Note::Unread);
                 Err(PatternError::BadPattern)
             }
             Err(MakeError::TooLarge) => {
                 push_in_room(&mut self.large, written);
+                self.notes.set(text, flags, Note::Large);
                 Err(PatternError::PatternTooLarge)
             }
             Err(MakeError::NoMemory) => Err(PatternError::NoMemory),
@@ -163,32 +156,6 @@ impl PatternTable {
     {
         self.patterns[number as usize].finds(self.alloc, text)
     }
-}
-
-// Whether a pattern stands in a list.
-fn stands_in(list: &[Written], text: &str, flags: u8) -> bool
-    ensures { result ≡ is_in (written text.now flags) list.now }
-{
-    for other in list {
-        if other.is(text, flags) {
-            return true;
-        }
-    }
-    false
-}
-
-// The first place of a pattern among those that were made.
-fn place_in(patterns: &[Entry], text: &str, flags: u8) -> Option<usize>
-    ensures place { result ≡ place_of (written text.now flags) patterns.now }
-    ensures within { IfSome result (λ place. place < length patterns.now) }
-    ensures read { OnSome result (IsTrue (is_read text.now flags)) }
-{
-    for (place, entry) in patterns.iter().enumerate() {
-        if entry.is(text, flags) {
-            return Some(place);
-        }
-    }
-    None
 }
 
 // Adds an item at the end of a list that has room for it.

@@ -1,5 +1,5 @@
 ghost use Rattle.std.specs.Prelude.{◌≡◌, IfOk};
-ghost use Rattle.cos_patterns.specs.Written.{is_same, written};
+ghost use Rattle.cos_patterns.specs.Written.{written};
 
 use listed::Text;
 use std::alloc::{AllocError, Global};
@@ -29,12 +29,5 @@ impl Written {
             body: Text::of(alloc, body)?,
             flags,
         })
-    }
-
-    // Whether it has this text and these flags.
-    pub(crate) fn is(&self, body: &str, flags: u8) -> bool
-        ensures { result ≡ is_same self.now (written body.now flags) }
-    {
-        self.body.as_str() == body && self.flags == flags
     }
 }
