@@ -3,3 +3,4 @@ pub mod Selects
 pub mod Rows
 pub mod Induction
 mod Example
+pub mod Unnumbered

@@ -2,3 +2,4 @@ pub mod Spelled
 pub mod Joined
 pub mod TextLaws
 mod Example
+pub mod Unnumbered

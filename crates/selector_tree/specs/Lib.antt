@@ -1,3 +1,4 @@
 pub mod Letters
 pub mod Canonical
 pub mod Example
+pub mod Unnumbered
