@@ -1,0 +1,16 @@
+use Rattle.std.proofs.Common.{◌≡◌, ◌<◌, ◌-◌, ℕ, Some, length}
+use Rattle.page_tree.specs.Facts.{text_length}
+use Rattle.page_tree.specs.Words.{utf16_length}
+use Rattle.page_tree.proofs.Walk.{times, left_at}
+use Rattle.selector_match.specs.Asked.{below, own_text}
+use Rattle.selector_match.proofs.Under.{joined}
+use Rattle.selector_match.proofs.below.has_units.Given as goal
+
+abbrev pub invariant-nodes : goal.invariant-nodes
+invariant-nodes l = record {
+  units : l.fn.wanted - text_length l.dom l.x ≡ l.left - utf16_length (joined (own_text l.dom) (left_at l.at (below l.dom l.x)));
+  there : (k : ℕ) → l.at ≡ Some k → 0 < times k (below l.dom l.x);
+}
+
+abbrev pub decreases-nodes : goal.decreases-nodes
+decreases-nodes l = length (left_at l.at (below l.dom l.x))

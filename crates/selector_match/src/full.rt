@@ -1,0 +1,115 @@
+//! Tests with texts and patterns.
+ghost use Rattle.std.specs.Prelude.{◌≡◌, true, ◌&&◌, IfOk};
+ghost use Rattle.std.specs.List.{list_any};
+ghost use Rattle.page_tree.specs.Standings.{attrs};
+ghost use Rattle.cos_patterns.specs.Found.{pattern_found};
+ghost use Rattle.selector_meaning.specs.Meaning.{holds, is_found, is_named, is_named_by};
+ghost use Rattle.selector_match.specs.Asked.{IsElement};
+ghost use Rattle.selector_match.specs.Kinds.{is_single};
+ghost use Rattle.selector_match.specs.Patterns.{is_ready, is_held, is_held_or_none};
+
+use crate::below::text_of;
+use crate::plain::{attrs_of, holds_plain};
+use crate::texts::holds_text;
+use cos_patterns::PatternTable;
+use dom_arena::Dom;
+use selector_tree::{Arg, Test};
+use std::alloc::{AllocError, Global};
+
+/// Whether a test holds for an element, for tests other than `Is`, `Not` and `Has`.
+///
+/// The table has each pattern of the test under its number. Memory is taken for a text content, which is joined once, and
+/// by patterns.
+pub fn holds(
+    alloc: Global,
+    dom: &Dom,
+    path: &str,
+    table: &PatternTable,
+    test: &Test,
+    x: u32,
+) -> Result<bool, AllocError>
+    requires element { IsElement dom.now x }
+    requires single { is_single test.now ≡ true }
+    requires ready { is_ready table.now.patterns test.now ≡ true }
+    ensures { IfOk result (λ answer. answer ≡ holds pattern_found dom.now path.now test.now x) }
+{
+    match test {
+        Test::HasText(arg) => {
+            let text = text_of(alloc, dom, x)?;
+            is_found(table, text.as_str(), arg)
+        }
+        Test::MatchesPath(arg) => is_found(table, path, arg),
+        Test::MatchesAttr { name, value } => has_attr_by(table, dom, x, name, value),
+        _ => Ok(holds_plain(dom, path, test, x)),
+    }
+}
+
+// Whether a text holds the literal, or the pattern is found in it.
+fn is_found(table: &PatternTable, text: &str, arg: &Arg) -> Result<bool, AllocError>
+    requires { is_held table.now.patterns arg.now ≡ true }
+    ensures { IfOk result (λ answer. answer ≡ is_found pattern_found arg.now text.now) }
+{
+    match arg {
+        Arg::Literal(part) => Ok(holds_text(text, part.as_str())),
+        Arg::Pattern { number, .. } => table.finds(*number, text),
+    }
+}
+
+// Whether a text is the literal, or the pattern is found in it.
+fn is_named(table: &PatternTable, text: &str, arg: &Arg) -> Result<bool, AllocError>
+    requires { is_held table.now.patterns arg.now ≡ true }
+    ensures { IfOk result (λ answer. answer ≡ is_named pattern_found arg.now text.now) }
+{
+    match arg {
+        Arg::Literal(whole) => Ok(text == whole.as_str()),
+        Arg::Pattern { number, .. } => table.finds(*number, text),
+    }
+}
+
+fn is_named_if_any(table: &PatternTable, text: &str, arg: &Option<Arg>) -> Result<bool, AllocError>
+    requires { is_held_or_none table.now.patterns arg.now ≡ true }
+    ensures { IfOk result (λ answer. answer ≡ is_named_by pattern_found arg.now text.now) }
+{
+    match arg {
+        None => Ok(true),
+        Some(arg) => is_named(table, text, arg),
+    }
+}
+
+// Whether an element has an attribute of such a name and such a value.
+fn has_attr_by(
+    table: &PatternTable,
+    dom: &Dom,
+    x: u32,
+    name: &Arg,
+    value: &Option<Arg>,
+) -> Result<bool, AllocError>
+    requires name { is_held table.now.patterns name.now ≡ true }
+    requires value { is_held_or_none table.now.patterns value.now ≡ true }
+    ensures { IfOk result (λ answer. answer ≡ list_any (λ a. is_named pattern_found name.now a.0 && is_named_by pattern_found value.now a.1) (attrs dom.now x)) }
+{
+    for attr in attrs_of(dom, x) {
+        if fits_by(table, attr.0.as_str(), attr.1.as_str(), name, value)? {
+            return Ok(true);
+        }
+    }
+    Ok(false)
+}
+
+fn fits_by(
+    table: &PatternTable,
+    own_name: &str,
+    own_value: &str,
+    name: &Arg,
+    value: &Option<Arg>,
+) -> Result<bool, AllocError>
+    requires name { is_held table.now.patterns name.now ≡ true }
+    requires value { is_held_or_none table.now.patterns value.now ≡ true }
+    ensures { IfOk result (λ answer. answer ≡ (is_named pattern_found name.now own_name.now && is_named_by pattern_found value.now own_value.now)) }
+{
+    if is_named(table, own_name, name)? {
+        is_named_if_any(table, own_value, value)
+    } else {
+        Ok(false)
+    }
+}
