@@ -1,0 +1,9 @@
+pub mod Onward
+pub mod Chains
+pub mod Any
+pub mod Linear
+pub mod Duals
+pub mod Weights
+pub mod Steps
+pub mod Walking
+pub mod Example

@@ -1,0 +1,76 @@
+-- Loops over elements, each found from the one before it.
+use Rattle.std.proofs.Common.{◌≡◌, ℕ, ◌+◌, ◌<◌, Bool, true, false, not, ◌||◌, ◌&&◌, List, [], ◌∷◌, ◌++◌, take, length, get_or, Option, Some, None, MatchOption, IfSome, subst, refl, sym, ap, ◌∙◌}
+use Rattle.std.proofs.Math.Bool as bool
+use Rattle.std.proofs.lemmas.Bool.{or_from, or_left}
+use Rattle.std.proofs.lemmas.List.{take_more}
+use Rattle.std.proofs.lemmas.List.Folds.{list_any-append}
+use Rattle.std.specs.List.{list_any}
+use Rattle.page_tree.specs.Forest.{Tree, rooted, numbers}
+use Rattle.page_tree.specs.Standings.{all}
+use Rattle.page_tree.specs.Directions.{is_in}
+use Rattle.page_tree.specs.Trees.{IsTree}
+use Rattle.page_tree.proofs.Members.{filter-alike}
+use Rattle.page_tree.proofs.Elements.{stands_as_element, is_in-all-rooted, all-rooted}
+use Rattle.selector_tree.specs.declared.selector.Step.{Step}
+use Rattle.selector_meaning.specs.Texts.{Bytes}
+use Rattle.selector_meaning.specs.Meaning.{is_other, is_apart, is_beside, is_shown}
+use Rattle.procedural_ops.specs.Reaching.{reached}
+use Rattle.procedural_ops.specs.Walks.{elements_behind, order}
+use Rattle.procedural_ops.proofs.Steps.{others_by}
+
+-- the members from one on, where `behind` has those behind it
+abbrev pub from_one : (ℕ → List ℕ) → Option ℕ → List ℕ
+from_one behind None = []
+from_one behind (Some m) = m ∷ behind m
+
+-- a list whose first member was looked for
+pub from_found : (behind : ℕ → List ℕ) (l : List ℕ) (o : Option ℕ) → MatchOption o (l ≡ []) (λ y. l ≡ y ∷ behind y) → l ≡ from_one behind o
+from_found behind l None h = h
+from_found behind l (Some y) h = h
+
+-- one more item that fails
+pub any_more : {X : Type 0} (p : X → Bool) (xs : List X) (i : ℕ) (x : X) → i < length xs → x ≡ get_or xs i x → list_any p (take i xs) ≡ false → p x ≡ false →
+    list_any p (take (i + 1) xs) ≡ false
+any_more p xs i x h is none fails =
+    ap (list_any p) (take_more xs i x h) ∙ list_any-append p (take i xs) (get_or xs i x ∷ [])
+    ∙ or_from (list_any p (take i xs)) (p (get_or xs i x) || false) none (or_from (p (get_or xs i x)) false (ap p (sym is) ∙ fails) refl)
+
+-- all elements stand behind the document
+pub all_behind : (t : Tree) → IsTree t → elements_behind t (order t) 0 ≡ all t
+all_behind t tree =
+    filter-alike (is_in (all t)) (stands_as_element (rooted t.nodes)) (numbers t.nodes ++ []) (λ k _. is_in-all-rooted t tree k)
+    ∙ sym (all-rooted t tree)
+
+pub at_document : (t : Tree) → is_in (order t) 0 ≡ true
+at_document t = refl
+
+-- what Others finds out of all elements
+module _ (t : Tree) (path : Bytes) (before : List Step) (x : ℕ) where
+  abbrev Hits : ℕ → Bool
+  Hits y = is_in (reached t path before) y && not (is_apart t y x)
+
+  abbrev Beside : ℕ → Bool
+  Beside y = is_in (reached t path before) y && is_beside t y x
+
+  pub others_hit : (rest : List ℕ) (y : ℕ) → list_any Hits (all t) ≡ list_any Hits (y ∷ rest) → Hits y ≡ true → false ≡ is_other t (reached t path before) x
+  others_hit rest y e h =
+      sym (others_by t path before x ∙ ap (λ b. not b && list_any Beside (all t) && is_shown t x) (e ∙ or_left (Hits y) (list_any Hits rest) h))
+
+  pub others_none : is_shown t x ≡ false → false ≡ is_other t (reached t path before) x
+  others_none h =
+      sym (others_by t path before x ∙ ap (λ b. not (list_any Hits (all t)) && list_any Beside (all t) && b) h
+      ∙ bool.and-false (not (list_any Hits (all t)) && list_any Beside (all t)))
+
+  pub others_near : (near : Bool) → list_any Hits (all t) ≡ false → list_any Beside (all t) ≡ (near || false) → is_shown t x ≡ true → near ≡ is_other t (reached t path before) x
+  others_near near h b s =
+      sym (others_by t path before x ∙ ap (λ a. not a && list_any Beside (all t) && is_shown t x) h
+      ∙ ap (λ c. c && is_shown t x) (b ∙ or_off near) ∙ ap (λ c. near && c) s ∙ bool.and-true near)
+    where
+      or_off : (a : Bool) → (a || false) ≡ a
+      or_off true = refl
+      or_off false = refl
+
+-- what holds of a value that is there
+pub some_of : (P : ℕ → Type 0) (o : Option ℕ) (m : ℕ) → IfSome o P → o ≡ Some m → P m
+some_of P None m h e = absurd (let no : None ≡ Some m = e in cc)
+some_of P (Some n) m h e = let same : n ≡ m = (let both : Some n ≡ Some m = e in cc) in subst P same h

@@ -1,0 +1,6 @@
+pub mod Walks
+pub mod Reaching
+pub mod Weight
+pub mod Proper
+pub mod Search
+pub mod Told
