@@ -3,10 +3,15 @@
 
   bench/bench.py [--program PATH]
 
-It makes its own input in a temporary folder. The pages are tidy: a flat one, whose elements are all siblings, and a
-nested one. The time should grow as the page does, and the peak memory should stay below forty bytes for each byte
-of the page. A script of changes has every element asked again after each line: its time should grow as the number of its
-lines does, and its peak memory should not."""
+It makes its own input in a temporary folder.
+
+- Pages: a flat one, whose elements are all siblings, and a nested one. The time should grow as the page does.
+- HTML documents that Debian's documentation packages ship, where they are installed (python3-doc, sqlite3-doc, nodejs-doc
+  and others), the largest first, without filters: reading them should reach 40 MB a second, with less than 25 bytes of memory
+  for each byte. What this process holds, some 26 MB, is the least that is shown as the peak of a run.
+- Hostile pages, each in two sizes: the larger one should take at most about twice as long.
+- A script of changes has every element asked again after each line: its time should grow as the number of its lines does,
+  and its peak memory should not."""
 
 import argparse
 import os
@@ -17,6 +22,28 @@ import time
 from pathlib import Path
 
 TOP = Path(__file__).resolve().parent.parent
+
+# The largest documents that are read, and how many.
+DOCUMENT_BYTES = 10_000_000
+DOCUMENTS = 8
+
+
+# Pages that are made to be slow, by name: what comes first, and what fills them up to a size.
+HOSTILE = {
+    "a comment that isn't closed": ("<!--", "a -"),
+    "a script that isn't closed": ("<script>", "a</b</scrip"),
+    "`<`": ("", "<"),
+    "`</`": ("", "</"),
+    "`<!`": ("", "<!"),
+    "`&`": ("", "&"),
+    "references": ("", "&amp;"),
+    "a number that doesn't end": ("&#", "1"),
+    "end tags of no element": ("<b>" * 500, "</i>"),
+    "a tag that isn't closed": ("<b ", "a "),
+    "a value that isn't closed": ("<b a='", "a>"),
+    "one attribute again and again": ("<b ", "a=1 ", ">"),
+    "one word": ("", "a"),
+}
 
 
 def flat_page(nodes):
@@ -90,6 +117,52 @@ def pages(program, folder, name, make):
     return compare(f"{name}, 500,000 for 200,000 nodes", *seconds)
 
 
+def documents(program, folder):
+    """The largest documents of the installed packages, without those that a page's size rules out."""
+    found = [(file.stat().st_size, file) for file in Path("/usr/share/doc").rglob("*.html") if file.is_file()]
+    if not found:
+        print("no HTML documents of Debian's packages are installed")
+    ran = True
+    for size, file in sorted(found, reverse=True)[:DOCUMENTS]:
+        if size <= DOCUMENT_BYTES:
+            Path(folder, "page").write_bytes(file.read_bytes())
+            seconds = measure(program, folder, "/".join(file.parts[-3:])[-38:], ["apply", "none", "page"])
+            ran = ran and seconds is not None
+            if seconds:
+                print(f"{'':<38}{size / 1e6 / seconds:>21.1f} MB a second")
+    return ran
+
+
+def hostile_page(name, size):
+    first, fill, *last = HOSTILE[name]
+    yield first
+    for _ in range(size // len(fill) // 1000):
+        yield fill * 1000
+    yield from last
+
+
+def attributes_page(size):
+    """One tag with as many attributes, each of a name of its own."""
+    yield "<b"
+    for i in range(size // 9):
+        yield f" a{i:07}"
+    yield ">"
+
+
+def hostile(program, folder):
+    """Each hostile page, and one twice as large."""
+    makers = {name: lambda size, name=name: hostile_page(name, size) for name in HOSTILE}
+    makers["attributes of a tag"] = attributes_page
+    ran = True
+    for name, make in makers.items():
+        seconds = []
+        for size in (8_000_000, 16_000_000):
+            write(Path(folder, "page"), make(size))
+            seconds.append(measure(program, folder, name, ["apply", "list", "page"]))
+        ran = compare("  twice as large", *seconds) and ran
+    return ran
+
+
 def scripts(program, folder, nodes):
     """A script, and one with four times as many lines."""
     seconds = []
@@ -108,6 +181,8 @@ def main():
     with tempfile.TemporaryDirectory() as folder:
         Path(folder, "list").write_text(filters(50))
         ran = [pages(program, folder, "flat", flat_page), pages(program, folder, "nested", nested_page)]
+        Path(folder, "none").write_text("")
+        ran += [documents(program, folder), hostile(program, folder)]
         Path(folder, "list").write_text(filters(10))
         write(Path(folder, "page"), flat_page(20_000))
         ran.append(scripts(program, folder, 20_000))

@@ -1,5 +1,7 @@
 -- A list has at most as many lines, and so as many filters, as bytes.
 use Rattle.std.proofs.Common.{◌≡◌, ◌+◌, ◌<◌, ◌≤◌, ◌==◌, ◌&&◌, ◌^◌, ℕ, suc, cond, Bool, true, false, List, [], ◌∷◌, length, arith, refl}
+use Rattle.std.proofs.lemmas.List.{length-drop}
+use Rattle.cos_source.specs.Mark.{mark_length, without_mark}
 use Rattle.cos_source.specs.Lines.{is_lf, begins_with_lf, lines_of, onto_first_line, numbered}
 use Rattle.cosmetic_top.specs.declared.filters.ListFilter.{ListFilter}
 use Rattle.cosmetic_top.specs.declared.filters.ListLine.{ListLine}
@@ -35,3 +37,7 @@ filters_few (line ∷ lines) = with_filter-few line.0 (length lines) (line_of li
 pub few_filters : (bytes : List ℕ) → length bytes < 2 ^ 32 → length (filters_in (numbered 1 (lines_of bytes))) < 2 ^ 32
 few_filters bytes h =
     omega (arith, filters_few (numbered 1 (lines_of bytes)), numbered_many 1 (lines_of bytes), lines_few bytes)
+
+-- what is left of bytes without their mark
+pub unmarked_few : (bytes rest : List ℕ) → rest ≡ without_mark bytes → length bytes < 2 ^ 32 → length rest < 2 ^ 32
+unmarked_few bytes rest e h = rw e (omega (arith, length-drop (mark_length bytes) bytes, h))

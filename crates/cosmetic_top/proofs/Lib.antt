@@ -6,3 +6,4 @@ mod Few
 mod Parts
 mod Reports
 mod Steps
+pub mod Pages

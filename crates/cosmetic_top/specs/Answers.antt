@@ -38,6 +38,15 @@ IsInputError WriteFault = ⊥
 IsInputError (Refused refusal) = Unit {0}
 IsInputError NoMemory = Unit {0}
 
+-- an error that a page may give: it comes from no fault
+abbrev pub IsPageError : Status → Type 0
+IsPageError Done = ⊥
+IsPageError Usage = ⊥
+IsPageError ReadFault = ⊥
+IsPageError WriteFault = ⊥
+IsPageError (Refused refusal) = Unit {0}
+IsPageError NoMemory = Unit {0}
+
 -- an error that a run may end with
 abbrev pub IsRunError : Status → Type 0
 IsRunError Done = ⊥

@@ -43,7 +43,11 @@ fn tell_refusal(rt: &impl Eprint, refusal: InputRefusal) -> io::Result<()> {
         }
         InputRefusal::TooLong(File::Page) => rt.eprintln("cosmetic: refused: page too long"),
         InputRefusal::TooLong(File::Script) => rt.eprintln("cosmetic: refused: script too long"),
-        InputRefusal::PageNotYet => rt.eprintln("cosmetic: refused: page not yet read"),
+        InputRefusal::PageNotUtf8(at) => {
+            eprintln!(rt; "cosmetic: refused: page is not UTF-8 at {at}")
+        }
+        InputRefusal::PageTooDeep => rt.eprintln("cosmetic: refused: page deeper than 512"),
+        InputRefusal::PageTooManyNodes => rt.eprintln("cosmetic: refused: page past 1000000 nodes"),
     }
 }
 

@@ -4,12 +4,14 @@ ghost use Rattle.cos_outside.specs.Causes.{Rose};
 ghost use Rattle.cos_outside.specs.Runs.{AppendsPrefix};
 ghost use Rattle.std.specs.Option.{option_copied};
 ghost use Rattle.cosmetic_top.specs.Command.{named, in_order};
-ghost use Rattle.cosmetic_top.specs.Output.{bytes_due, tree_due, script_due, inputs_due};
-ghost use Rattle.cosmetic_top.specs.Answers.{IsDue, IsFirstRefusal, IsInputError, is_failure};
+ghost use Rattle.cosmetic_top.specs.Output.{bytes_due, tree_of_source, tree_of_bytes, tree_due, script_due, inputs_due};
+ghost use Rattle.cos_source.specs.Mark.{without_mark};
+ghost use Rattle.cosmetic_top.specs.Answers.{IsDue, IsFirstRefusal, IsInputError, IsPageError, is_failure};
 
 use crate::command::Command;
 use crate::{FILE_LIMIT, File, InputRefusal, Status};
 use cos_outside::{ReadError, Shelf, read_file};
+use cos_source::text_without_mark;
 use dom_arena::Dom;
 use html_tree::{PageError, read_page};
 use listed::Bytes;
@@ -100,9 +102,29 @@ fn read_tree<S: Shelf>(alloc: Global, shelf: &mut S, page: &str) -> Result<Dom, 
     ensures fault { IsErrOf result Status.ReadFault → Rose (S.faults shelf.old) (S.faults shelf.new) }
 {
     let bytes = read_input(alloc, shelf, page, File::Page)?;
-    match read_page(alloc, bytes.as_slice()) {
+    tree_of(alloc, bytes.as_slice())
+}
+
+// The tree of a page from the bytes of its file.
+fn tree_of(alloc: Global, bytes: &[u8]) -> Result<Dom, Status>
+    ensures due { IsDue result (tree_of_bytes bytes.now) }
+    ensures kinds { IfErr result IsPageError }
+{
+    match str::from_utf8(bytes) {
+        Ok(text) => tree_of_text(alloc, text),
+        Err(error) => Err(Status::Refused(InputRefusal::PageNotUtf8(error.valid_up_to()))),
+    }
+}
+
+// The tree of a page from its text.
+fn tree_of_text(alloc: Global, text: &str) -> Result<Dom, Status>
+    ensures due { IsDue result (tree_of_source (without_mark text.now)) }
+    ensures kinds { IfErr result IsPageError }
+{
+    match read_page(alloc, text_without_mark(text)) {
         Ok(tree) => Ok(tree),
-        Err(PageError::NotYet) => Err(Status::Refused(InputRefusal::PageNotYet)),
+        Err(PageError::TooDeep) => Err(Status::Refused(InputRefusal::PageTooDeep)),
+        Err(PageError::TooManyNodes) => Err(Status::Refused(InputRefusal::PageTooManyNodes)),
         Err(PageError::NoMemory) => Err(Status::NoMemory),
     }
 }

@@ -61,6 +61,14 @@ mod tests {
         "note 1:3 set-aside NotYet\npage https://example.com/\nactive 2\nfilter 1:1 .ad\nfilter 1:2 #top\nstep 0 opened\nhidden 2\n 1 div 1:2\n 2 span 1:1\nend 0\n"
     }
 
+    fn unhidden() -> &'static str {
+        "note 1:3 set-aside NotYet\npage https://example.com/\nactive 2\nfilter 1:1 .ad\nfilter 1:2 #top\nstep 0 opened\nhidden 0\nend 0\n"
+    }
+
+    fn marked() -> &'static str {
+        "page https://example.com/\nactive 1\nfilter 1:1 .x\nstep 0 opened\nhidden 1\n 1 p 1:1\nstep 1 ok\nhidden 0\nend 1\n"
+    }
+
     const NOTHING: &str = "page https://example.com/\nactive 0\nstep 0 opened\nhidden 0\nend 0\n";
 
     fn bytes_of(alloc: Global, text: &str) -> Result<Bytes, AllocError> {
@@ -127,7 +135,6 @@ mod tests {
     #[test]
     fn a_run_ends_and_writes_as_its_input_says(rt: HostRuntime) -> Result<(), Fail> {
         let alloc = rt.alloc();
-        let not_yet = Status::Refused(InputRefusal::PageNotYet);
         let fault = Status::WriteFault;
         let notice = "note 1:3 set-aside NotYet\n";
         for (words, list, page, script, shelf_fails, sink_fails, status, written) in [
@@ -142,7 +149,26 @@ mod tests {
                 report(),
             ),
             ("apply L P", "", "", CHANGES, 99, 99, Status::Done, NOTHING),
-            ("apply L P", LIST, "<div>", CHANGES, 99, 99, not_yet, ""),
+            (
+                "apply L P",
+                LIST,
+                "<div>",
+                CHANGES,
+                99,
+                99,
+                Status::Done,
+                unhidden(),
+            ),
+            (
+                "apply L P S",
+                "\u{feff}##.x",
+                "\u{feff}<P class=x>",
+                b"\xef\xbb\xbfattr 1 class y",
+                99,
+                99,
+                Status::Done,
+                marked(),
+            ),
             ("apply L", LIST, PAGE, CHANGES, 99, 99, Status::Usage, ""),
             (
                 "apply L P S S",
@@ -228,7 +254,6 @@ mod tests {
                 Status::ReadFault,
                 "",
             ),
-            ("apply L P Q", LIST, "<div>", CHANGES, 99, 99, not_yet, ""),
         ] {
             let mut shelf = shelf_of(alloc, list, page, script, shelf_fails)?;
             let mut out = MemorySink::new(alloc, call(alloc, sink_fails)?);
@@ -241,6 +266,36 @@ mod tests {
             );
             assert_eq!(rt; out.written(), written.as_bytes());
         }
+        Ok(())
+    }
+
+    // What a run says of a page that it refuses, where the script is read behind it.
+    fn refusal(alloc: Global, page: &[u8]) -> Result<Status, AllocError> {
+        let mut bytes = Bytes::new(alloc);
+        bytes.extend(page)?;
+        let mut files = NamedFiles::new(alloc);
+        files.push((bytes_of(alloc, "L")?, bytes_of(alloc, LIST)?))?;
+        files.push((bytes_of(alloc, "P")?, bytes))?;
+        let mut shelf = MemoryShelf::new(alloc, files, 4096, Calls::new(alloc));
+        let mut out = MemorySink::new(alloc, Calls::new(alloc));
+        let words = words_of(alloc, "apply L P Q")?;
+        Ok(run(alloc, words.as_slice(), &mut shelf, &mut out))
+    }
+
+    #[test]
+    fn pages_are_refused_before_the_script_is_read(rt: HostRuntime) -> Result<(), Fail> {
+        let alloc = rt.alloc();
+        let mut deep = String::new(alloc);
+        for _ in 0..512 {
+            deep.push_str("<b>")?;
+        }
+        let refused = refusal(alloc, deep.as_bytes())?;
+        assert_eq!(rt; refused, Status::ReadFault);
+        deep.push_str("<b>")?;
+        let refused = refusal(alloc, deep.as_bytes())?;
+        assert_eq!(rt; refused, Status::Refused(InputRefusal::PageTooDeep));
+        let refused = refusal(alloc, b"\xef\xbb\xbf<p>\xff")?;
+        assert_eq!(rt; refused, Status::Refused(InputRefusal::PageNotUtf8(6)));
         Ok(())
     }
 }

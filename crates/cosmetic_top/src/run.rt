@@ -17,8 +17,10 @@ use std::alloc::Global;
 ///
 /// The words `apply LIST PAGE` read a filter list and a page from the shelf, and write to the sink which elements of the
 /// page are hidden, by which filter of the list; `apply LIST PAGE SCRIPT` does so again after each line of a script of
-/// changes. All other words are `Usage`. A file past `FILE_LIMIT` bytes is refused as
-/// `TooLong`, and a page that isn't tidy as `PageNotYet`; nothing is written before all input is accepted.
+/// changes. All other words are `Usage`. A byte order mark at the start of a file is skipped. The first of these refusals
+/// decides, in the order of the files: `TooLong` for a file past `FILE_LIMIT` bytes; for the page then `PageNotUtf8`, and
+/// `PageTooDeep` or `PageTooManyNodes` for the first of its nodes that passes a limit. Nothing is written before all input is
+/// accepted.
 pub fn run<S: Shelf, O: Sink>(alloc: Global, words: &[String], shelf: &mut S, out: &mut O) -> Status
     ensures usage { (result ≡ Status.Usage) ↔ (names_of (map string_bytes words.now) ≡ None) }
     // Where the shelf tells its files, an answer that is no failure is the one that is due. So each refusal comes exactly

@@ -16,8 +16,12 @@ pub enum File {
 pub enum InputRefusal {
     /// The file has more than `FILE_LIMIT` bytes.
     TooLong(File),
-    /// The page isn't of the form that is read yet.
-    PageNotYet,
+    /// The page isn't UTF-8: the offset in the file, in bytes, at which the longest UTF-8 text ends that it begins with.
+    PageNotUtf8(usize),
+    /// A node of the page stands deeper than 512, before any is one too many.
+    PageTooDeep,
+    /// The page has more than 1,000,000 nodes.
+    PageTooManyNodes,
 }
 
 /// How a run ends.

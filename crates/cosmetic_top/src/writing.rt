@@ -3,6 +3,7 @@ ghost use Rattle.std.specs.Prelude.{◌≡◌, ◌<◌, ◌≤◌, ◌^◌, ◌+
 ghost use Rattle.cos_outside.specs.Causes.{Rose};
 ghost use Rattle.cos_outside.specs.Runs.{AppendsPrefix};
 ghost use Rattle.cos_source.specs.Lines.{lines_of, numbered};
+ghost use Rattle.cos_source.specs.Mark.{without_mark};
 ghost use Rattle.mutation_script.specs.Lines.{script_line};
 ghost use Rattle.mutation_script.specs.Changes.{after};
 ghost use Rattle.cosmetic_top.specs.AnswerNames.{answer_name};
@@ -14,7 +15,7 @@ use crate::hiding::hidden_rows;
 use crate::inputs::Inputs;
 use crate::{ListFilter, read_list, texts};
 use cos_outside::{Failed, Sink, write_whole};
-use cos_source::Lines;
+use cos_source::{Lines, without_mark};
 use dom_arena::Dom;
 use std::alloc::{AllocError, Global};
 
@@ -136,8 +137,8 @@ pub fn write_report<O: Sink>(alloc: Global, out: &mut O, inputs: Inputs) -> Resu
     requires list { length inputs.list < 2 ^ 32 }
     requires script { length inputs.script < 2 ^ 32 }
     ensures told { O.tells out.new ≡ O.tells out.old }
-    ensures whole { IsTrue (O.tells out.old) → OnOk result (O.written out.new ≡ O.written out.old ++ report_of inputs.list inputs.tree inputs.script) }
-    ensures front { IsTrue (O.tells out.old) → AppendsPrefix (O.written out.old) (O.written out.new) (report_of inputs.list inputs.tree inputs.script) }
+    ensures whole { IsTrue (O.tells out.old) → OnOk result (O.written out.new ≡ O.written out.old ++ report_of (without_mark inputs.list) inputs.tree (without_mark inputs.script)) }
+    ensures front { IsTrue (O.tells out.old) → AppendsPrefix (O.written out.old) (O.written out.new) (report_of (without_mark inputs.list) inputs.tree (without_mark inputs.script)) }
     ensures later { O.faults out.old ≤ O.faults out.new }
     ensures fault { IsErrOf result ReportError.WriteFault → Rose (O.faults out.old) (O.faults out.new) }
 {
@@ -146,14 +147,14 @@ pub fn write_report<O: Sink>(alloc: Global, out: &mut O, inputs: Inputs) -> Resu
         mut tree,
         script,
     } = inputs;
-    let read = read_list(alloc, list.as_slice())?;
+    let read = read_list(alloc, without_mark(list.as_slice()))?;
     write_read(
         alloc,
         out,
         read.notices.as_slice(),
         read.filters.as_slice(),
         &mut tree,
-        script.as_slice(),
+        without_mark(script.as_slice()),
     )
 }
 
