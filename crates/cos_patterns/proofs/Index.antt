@@ -1,5 +1,5 @@
 -- How an index goes on fitting its table.
-use Rattle.std.proofs.Common.{◌≡◌, ◌<◌, ℕ, Bool, true, false, if◌then◌else◌, List, [], ◌∷◌, ◌++◌, length, IsTrue, refl, subst}
+use Rattle.std.proofs.Common.{◌≡◌, ◌<◌, ◌⊎◌, inl, inr, ℕ, Bool, true, false, if◌then◌else◌, List, [], ◌∷◌, ◌++◌, length, IsTrue, refl, subst}
 use Rattle.cos_patterns.specs.declared.notes.Note.{Note}
 use Rattle.cos_patterns.specs.declared.notes.Note.TheVariants.{Nothing, Held, Large, Unread}
 use Rattle.cos_patterns.specs.declared.notes.Notes.{Notes}
@@ -7,7 +7,7 @@ use Rattle.cos_patterns.specs.declared.written.Written.{Written}
 use Rattle.cos_patterns.specs.Found.{is_read}
 use Rattle.cos_patterns.specs.Notes.{noted_in, Says, IsIndexOf}
 use Rattle.cos_patterns.specs.Tables.{Noted, is_noted}
-use Rattle.cos_patterns.specs.Written.{is_same}
+use Rattle.cos_patterns.specs.Written.{is_in, is_same}
 use Rattle.cos_patterns.proofs.Agreement.{not_noted, in_others, noted_as}
 use Rattle.cos_patterns.proofs.Numbers.{place_stays}
 use Rattle.cos_patterns.proofs.Places.{same_is, added_is_in, place_at_end}
@@ -38,18 +38,25 @@ module _ (table : Noted) (added : Written) (new : is_noted added table ≡ false
   says_held read = (place_at_end added table.patterns (not_noted added table new).0, (not_noted added table new).1, (not_noted added table new).2, read)
 
   pub says_large : Says Large added (noted_as table.patterns (table.large ++ added ∷ []) table.unread)
-  says_large = (added_is_in added table.large, (not_noted added table new).2)
+  says_large = (added_is_in added table.large, (not_noted added table new).2, (not_noted added table new).0)
 
   pub says_unread : Says Unread added (noted_as table.patterns table.large (table.unread ++ added ∷ []))
-  says_unread = ((not_noted added table new).1, added_is_in added table.unread)
+  says_unread = ((not_noted added table new).1, added_is_in added table.unread, (not_noted added table new).0)
+
+-- a pattern isn't held where a note gives no number
+pub not_held : (note : Note) (pattern : Written) (table : Noted) → (note ≡ Nothing) ⊎ ((note ≡ Large) ⊎ (note ≡ Unread)) → Says note pattern table →
+    is_in pattern table.patterns ≡ false
+not_held note pattern table (inl is) says = (not_noted pattern table (rw is at says)).0
+not_held note pattern table (inr (inl is)) says = (rw is at says).2
+not_held note pattern table (inr (inr is)) says = (rw is at says).2
 
 -- what is said of another pattern stays
 module _ (table : Noted) (added pattern : Written) (differs : is_same added pattern ≡ false) where
   pub stays_held : (was : Note) → Says was pattern table → Says was pattern (noted_as (table.patterns ++ added ∷ []) table.large table.unread)
   stays_held Nothing says = rw (in_others table.patterns added pattern differs) says
   stays_held (Held number) says = (place_stays pattern table.patterns (added ∷ []) number says.0, says.1, says.2, says.3)
-  stays_held Large says = says
-  stays_held Unread says = says
+  stays_held Large says = rw (in_others table.patterns added pattern differs) says
+  stays_held Unread says = rw (in_others table.patterns added pattern differs) says
 
   pub stays_large : (was : Note) → Says was pattern table → Says was pattern (noted_as table.patterns (table.large ++ added ∷ []) table.unread)
   stays_large Nothing says = rw (in_others table.large added pattern differs) says

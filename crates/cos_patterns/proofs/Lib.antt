@@ -1,4 +1,5 @@
 pub mod Agreement
+pub mod Extensions
 pub mod Index
 pub mod NotesLaws
 pub mod Numbers

@@ -1,5 +1,5 @@
 -- Where a pattern stands in a list.
-use Rattle.std.proofs.Common.{◌≡◌, ◌<◌, ◌||◌, ℕ, true, false, List, [], ◌∷◌, ◌++◌, length, Some, is_some, arith, refl, ap}
+use Rattle.std.proofs.Common.{◌≡◌, ◌<◌, ◌||◌, ℕ, true, false, List, [], ◌∷◌, ◌++◌, length, Some, None, is_some, arith, refl, ap}
 use Rattle.std.proofs.lemmas.Grind.{common_steps}
 use Rattle.std.proofs.lemmas.Bool.Decides.{nat_tests}
 use Rattle.std.proofs.lemmas.Slice.Eq.{bytes_eq-Decides}
@@ -28,6 +28,10 @@ added_is_in pattern list = grind (arith, in_more pattern pattern list, same_self
 pub has_place : (pattern : Written) (list : List Written) → is_some (place_of pattern list) ≡ is_in pattern list
 has_place pattern [] = refl
 has_place pattern (first ∷ rest) = grind (arith, common_steps, has_place pattern rest)
+
+-- and none elsewhere
+pub no_place : (pattern : Written) (list : List Written) → is_in pattern list ≡ false → place_of pattern list ≡ None
+no_place pattern list new = grind (arith, common_steps, has_place pattern list)
 
 -- the place is within the list
 pub place_within : (pattern : Written) (list : List Written) (place : ℕ) → place_of pattern list ≡ Some place → place < length list

@@ -108,7 +108,7 @@ of_no_text : note_among None 0 ≡ Nothing
 of_no_text = refl
 
 large_says : Says Large (written (codes "a") 1) (record { patterns = []; large = both; unread = [] })
-large_says = (refl, refl)
+large_says = (refl, refl, refl)
 
 nothing_says : Says Nothing (written (codes "b") 0) (record { patterns = both; large = []; unread = [] })
 nothing_says = refl

@@ -23,14 +23,16 @@ abbrev pub noted_in : Notes → Written → Note
 noted_in notes pattern = note_among (notes_of notes pattern.body) pattern.flags
 
 -- what a note says of a pattern of a table: it isn't noted; or it has this number, and was read; or it was refused in one
--- of the two ways
+-- of the two ways, and isn't held
 abbrev pub Says : Note → Written → Noted → Type 0
 Says Nothing pattern table = is_noted pattern table ≡ false
 Says (Held number) pattern table =
     (place_of pattern table.patterns ≡ Some number) × (is_in pattern table.large ≡ false) × (is_in pattern table.unread ≡ false)
     × IsTrue (is_read pattern.body pattern.flags)
-Says Large pattern table = (is_in pattern table.large ≡ true) × (is_in pattern table.unread ≡ false)
-Says Unread pattern table = (is_in pattern table.large ≡ false) × (is_in pattern table.unread ≡ true)
+Says Large pattern table =
+    (is_in pattern table.large ≡ true) × (is_in pattern table.unread ≡ false) × (is_in pattern table.patterns ≡ false)
+Says Unread pattern table =
+    (is_in pattern table.large ≡ false) × (is_in pattern table.unread ≡ true) × (is_in pattern table.patterns ≡ false)
 
 -- what the index notes is so of each pattern
 abbrev pub IsIndexOf : Notes → Noted → Type 0

@@ -1,5 +1,5 @@
 -- What a table of patterns shows, and when it agrees with a maker.
-use Rattle.std.specs.Prelude.{ℕ, ◌≡◌, Bool, false, ◌||◌, List, [], ◌∷◌, ◌++◌, if◌then◌else◌, slice_get, option_map, unwrap_or}
+use Rattle.std.specs.Prelude.{ℕ, ◌≡◌, Bool, false, ◌||◌, List, [], ◌∷◌, ◌++◌, if◌then◌else◌, IsTrue, slice_get, option_map, unwrap_or}
 use Rattle.cos_patterns.specs.declared.written.Asked.{Asked}
 use Rattle.cos_patterns.specs.declared.written.Asked.TheVariants.{Pattern, Address}
 use Rattle.cos_patterns.specs.declared.written.Written.{Written}
@@ -40,6 +40,12 @@ said_by is_large is_unread is_held =
 
 abbrev pub said_of : Written → Noted → Said
 said_of pattern table = said_by (is_in pattern table.large) (is_in pattern table.unread) (is_in pattern table.patterns)
+
+-- a later table says of each pattern that an earlier one noted just what that said, and the numbers stay
+pub record Extends (earlier later : Noted) : Type 0 where
+  pub said : (pattern : Written) → IsTrue (is_noted pattern earlier) → said_of pattern later ≡ said_of pattern earlier
+  pub more : List Written
+  pub numbers : later.patterns ≡ earlier.patterns ++ more
 
 -- the patterns by number, after this one was put: a new one stands behind the others
 abbrev pub with_pattern : Written → List Written → List Written

@@ -3,7 +3,8 @@
 //! A `Maker` makes both of texts, and tells which it refused: `CrateMaker` asks the crates, and `ListedMaker` also
 //! refuses where a test wants it. A `PatternTable` holds patterns by number and asks its maker for no text twice.
 //! `specs/Found.antt` says when a pattern is found in a text, `Makers.antt` what an answer of a maker does to its lists,
-//! `Tables.antt` when a table agrees with a maker, and `Notes.antt` what its index says of a pattern. `proofs/Numbers.antt` and `Agreement.antt` have laws for callers.
+//! `Tables.antt` when a table agrees with a maker, and `Notes.antt` what its index says of a pattern. `proofs/Numbers.antt`,
+//! `Agreement.antt` and `Extensions.antt` have laws for callers.
 #![tactic(auto)]
 
 mod crate_maker;

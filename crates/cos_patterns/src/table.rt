@@ -3,7 +3,7 @@ ghost use Rattle.cos_patterns.specs.declared.written.Asked.{Asked};
 ghost use Rattle.cos_patterns.specs.declared.written.Written.{Written};
 ghost use Rattle.cos_patterns.specs.Found.{is_read};
 ghost use Rattle.cos_patterns.specs.Notes.{Says};
-ghost use Rattle.cos_patterns.specs.Tables.{Agrees, is_noted, with_pattern, patterns_in, found_at, said_of};
+ghost use Rattle.cos_patterns.specs.Tables.{Agrees, Extends, is_noted, with_pattern, patterns_in, found_at, said_of};
 ghost use Rattle.cos_patterns.specs.Written.{written, is_in, is_same, place_of};
 
 use crate::entry::Entry;
@@ -85,12 +85,33 @@ impl PatternTable {
         ensures kept { IsTrue (is_noted (written text.now flags) self.old) → self.new ≡ self.old }
         ensures others { (other : Written) → is_same (written text.now flags) other ≡ false → said_of other self.new ≡ said_of other self.old }
         ensures asked_once { IsTrue (is_noted (written text.now flags) self.old) → maker.new ≡ maker.old }
+        ensures stays { Extends self.old self.new }
     {
         match self.note_of(text, flags) {
             Note::Held(number) => Ok(number),
             Note::Large => Err(PatternError::PatternTooLarge),
             Note::Unread => Err(PatternError::BadPattern),
             Note::Nothing => self.ask(maker, text, flags),
+        }
+    }
+
+    /// How many patterns the table holds. Their numbers are those below.
+    pub fn len(&self) -> usize
+        ensures { result ≡ length self.now.patterns }
+    {
+        self.patterns.len()
+    }
+
+    /// The number of a pattern that the table holds; `None` for another one.
+    ///
+    /// `flags` is a sum of 1 for `i`, 2 for `m` and 4 for `s`.
+    pub fn number_of(&self, text: &str, flags: u8) -> Option<u32>
+        requires { flags < 8 }
+        ensures { result ≡ place_of (written text.now flags) self.now.patterns }
+    {
+        match self.note_of(text, flags) {
+            Note::Held(number) => Some(number),
+            Note::Nothing | Note::Large | Note::Unread => None,
         }
     }
 

@@ -8,7 +8,7 @@ use Rattle.selector_tree.specs.declared.selector.Step.TheOpen.{Step-F, Test-F}
 use Rattle.selector_tree.specs.declared.selector.Step.TheFolds.{fold-roll-Test, map-Step}
 use Rattle.selector_tree.specs.declared.selector.Test.{Test}
 use Rattle.selector_tree.specs.declared.selector.Test.TheVariants as test
-use Rattle.procedural_ops.specs.Proper.{inner_step, inner_test, is_inner, is_inner_test, own_step, is_own, are_own, is_proper}
+use Rattle.proper_filters.specs.Proper.{inner_step, inner_test, is_inner, is_inner_test, own_step, is_own, are_own, is_proper}
 use Rattle.procedural_ops.specs.Told.{selector_at}
 use Rattle.procedural_ops.specs.Walks.{after_in}
 

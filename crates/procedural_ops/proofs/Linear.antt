@@ -14,7 +14,7 @@ use Rattle.cos_patterns.specs.declared.written.Written.{Written}
 use Rattle.cos_patterns.specs.Found.{pattern_found}
 use Rattle.selector_meaning.specs.Texts.{Bytes, is_empty}
 use Rattle.selector_meaning.specs.Meaning.{StepMeaning, TestMeaning, ChainMeaning, run, leads, holds, step_meaning, test_meaning, from_some, is_other}
-use Rattle.procedural_ops.specs.Proper.{inner_step, inner_test, is_inner, is_inner_test, are_inner}
+use Rattle.proper_filters.specs.Proper.{inner_step, inner_test, is_inner, is_inner_test, are_inner}
 use Rattle.procedural_ops.specs.Reaching.{meaning, chain_meaning, reached, leads_from}
 use Rattle.procedural_ops.proofs.Any.{same_by_iff, here, any-made, any-found, kept, keeps, alone, filled}
 

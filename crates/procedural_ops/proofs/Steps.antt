@@ -25,7 +25,7 @@ use Rattle.selector_meaning.specs.Meaning.{StepMeaning, TestMeaning, ChainMeanin
 use Rattle.selector_meaning.proofs.Laws.{step_of-Keep, step_of-Move, step_of-Others, holds-Is, holds-Not, holds-Has}
 use Rattle.selector_match.specs.Asked.{below, near, sources}
 use Rattle.selector_match.proofs.Beside.{is_there-sources}
-use Rattle.procedural_ops.specs.Proper.{are_inner}
+use Rattle.proper_filters.specs.Proper.{are_inner}
 use Rattle.procedural_ops.specs.Reaching.{meaning, chain_meaning, reached, leads_from, chain_gives, some_gives, some_leads, is_selected, goes_up, goes_up_at, first_up_of, lifted, lifted_at}
 use Rattle.procedural_ops.specs.Search.{some_source, some_target, some_lifted}
 use Rattle.procedural_ops.specs.Walks.{elements_behind, targets}

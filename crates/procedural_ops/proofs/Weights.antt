@@ -12,9 +12,9 @@ use Rattle.selector_tree.specs.declared.selector.Step.TheViews.{roll-Step, roll-
 use Rattle.selector_tree.specs.declared.selector.Test.{Test, out-Test}
 use Rattle.selector_tree.specs.declared.selector.Test.TheVariants as test
 use Rattle.selector_match.specs.Kinds.{is_single, is_single_at}
-use Rattle.selector_match.specs.Patterns.{is_ready, is_step_ready, step_ready, test_ready}
+use Rattle.proper_filters.specs.Held.{is_ready, is_step_ready, step_ready, test_ready}
 use Rattle.procedural_ops.specs.Weight.{step_weight, test_weight, step_weight_at, test_weight_at, chain_weight, selector_weight}
-use Rattle.procedural_ops.specs.Proper.{inner_step, inner_test, is_inner, is_inner_test, are_inner, is_inner_selector, own_step, is_own, are_own, is_proper}
+use Rattle.proper_filters.specs.Proper.{inner_step, inner_test, is_inner, is_inner_test, are_inner, is_inner_selector, own_step, is_own, are_own, is_proper}
 use Rattle.procedural_ops.specs.Reaching.{goes_up, goes_up_at}
 
 -- ---- weights

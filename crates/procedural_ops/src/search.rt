@@ -5,7 +5,7 @@ ghost use Rattle.page_tree.specs.Directions.{is_in};
 ghost use Rattle.cos_patterns.specs.Found.{pattern_found};
 ghost use Rattle.selector_meaning.specs.Meaning.{holds as holds_for, is_other};
 ghost use Rattle.selector_match.specs.Asked.{IsElement};
-ghost use Rattle.procedural_ops.specs.Proper.{is_inner, is_inner_test, are_inner, is_inner_selector, are_own, is_proper};
+ghost use Rattle.proper_filters.specs.Proper.{is_inner, is_inner_test, are_inner, is_inner_selector, are_own, is_proper};
 ghost use Rattle.procedural_ops.specs.Reaching.{reached, leads_from, some_gives, some_leads, is_selected, goes_up, lifted};
 ghost use Rattle.procedural_ops.specs.Search.{some_source, some_target, some_lifted};
 

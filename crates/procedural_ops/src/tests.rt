@@ -1,6 +1,6 @@
 // `test` and `others` on a small page.
 ghost use Rattle.std.specs.Prelude.{◌≡◌, ◌<◌, [], true, length, IfOk};
-ghost use Rattle.procedural_ops.specs.Proper.{is_proper};
+ghost use Rattle.proper_filters.specs.Proper.{is_proper};
 ghost use Rattle.procedural_ops.specs.Told.{selector_at};
 
 use super::*;

@@ -2,7 +2,7 @@ ghost use Rattle.std.specs.Prelude.{◌≡◌, ◌+◌, ◌<◌, true, length, I
 ghost use Rattle.cos_patterns.specs.Found.{pattern_found};
 ghost use Rattle.selector_meaning.specs.Meaning.{selects};
 ghost use Rattle.selector_match.specs.Asked.{IsElement};
-ghost use Rattle.procedural_ops.specs.Proper.{is_proper};
+ghost use Rattle.proper_filters.specs.Proper.{is_proper};
 ghost use Rattle.procedural_ops.specs.Told.{selector_at};
 
 use crate::search::is_selected;

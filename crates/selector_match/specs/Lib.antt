@@ -1,3 +1,2 @@
 pub mod Asked
 pub mod Kinds
-pub mod Patterns

@@ -6,7 +6,7 @@ ghost use Rattle.cos_patterns.specs.Found.{pattern_found};
 ghost use Rattle.selector_meaning.specs.Meaning.{holds, is_found, is_named, is_named_by};
 ghost use Rattle.selector_match.specs.Asked.{IsElement};
 ghost use Rattle.selector_match.specs.Kinds.{is_single};
-ghost use Rattle.selector_match.specs.Patterns.{is_ready, is_held, is_held_or_none};
+ghost use Rattle.proper_filters.specs.Held.{is_ready, is_held, is_held_or_none};
 
 use crate::below::text_of;
 use crate::plain::{attrs_of, holds_plain};

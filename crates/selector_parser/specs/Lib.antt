@@ -1,9 +1,4 @@
-pub mod Fronts
-pub mod Splits
-pub mod Letters
-pub mod Texts
-pub mod Stops
-pub mod Named
-pub mod Searches
-pub mod Chains
-pub mod Spelled
+pub mod Answers
+pub mod Lasting
+pub mod Numbered
+pub mod Readings

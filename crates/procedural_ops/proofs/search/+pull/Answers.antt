@@ -7,7 +7,7 @@ use Rattle.page_tree.specs.Standings.{all}
 use Rattle.page_tree.specs.Directions.{is_in}
 use Rattle.selector_meaning.specs.Meaning.{is_apart, is_beside}
 use Rattle.procedural_ops.specs.Reaching.{reached, leads_from, chain_gives, some_gives, some_leads, is_selected}
-use Rattle.procedural_ops.specs.Proper.{are_inner}
+use Rattle.proper_filters.specs.Proper.{are_inner}
 use Rattle.procedural_ops.specs.Weight.{chain_weight}
 use Rattle.procedural_ops.specs.Walks.{elements_behind, order}
 use Rattle.procedural_ops.proofs.Walking.{from_one}

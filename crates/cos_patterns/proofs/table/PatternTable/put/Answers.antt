@@ -1,8 +1,15 @@
 use Rattle.cos_patterns.specs.Written.{written}
 use Rattle.cos_patterns.proofs.Agreement.{put_again}
+use Rattle.cos_patterns.proofs.Extensions.{put_extends}
 use Rattle.cos_patterns.proofs.table.PatternTable.put.Goals as goal
 
 -- the pattern was noted, so that nothing changes
 pub returns-in-Held-clause-patterns : goal.returns-in-Held-clause-patterns
 returns-in-Held-clause-patterns g c =
     put_again (written c.args.text.now c.args.flags) c.args.self.now.patterns c.in-Held.number c.in-Held.ensures.0
+
+-- it wasn't noted, so that nothing is said of it before
+pub returns-in-Nothing-clause-stays : goal.returns-in-Nothing-clause-stays
+returns-in-Nothing-clause-stays g c =
+    put_extends (written c.args.text.now c.args.flags) c.args.self.now c.ask.new.self c.in-Nothing.ensures c.ask.ensures.others
+    c.ask.result c.ask.ensures.patterns c.ask.ensures.refused

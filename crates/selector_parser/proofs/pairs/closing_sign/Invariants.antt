@@ -1,7 +1,0 @@
-use Rattle.std.proofs.Common.{◌≡◌, false, take, drop}
-use Rattle.selector_spelling.specs.Arguments.{up_to}
-use Rattle.selector_parser.proofs.Slashes.{behind_front}
-use Rattle.selector_parser.proofs.pairs.closing_sign.Given as goal
-
-abbrev pub invariant-loop-place : goal.invariant-loop-place
-invariant-loop-place l = behind_front (take l.place l.bytes) (up_to l.sign l.odd (drop l.place l.bytes)) ≡ up_to l.sign false l.bytes

@@ -1,0 +1,12 @@
+use Rattle.std.proofs.Common.{sym, ◌∙◌}
+use Rattle.spelling_reader.proofs.LetterLaws.{plain-letter, other-letter, escaped-letter}
+use Rattle.spelling_reader.proofs.names.letter.Goals as goal
+
+pub returns-then-stands : goal.returns-then-stands
+returns-then-stands c = plain-letter c.args.plain c.args.text.now c.in_ok-c.rest.now c.in_ok-c.c c.in_ok-c.ensures (sym c.stands.ensures ∙ c.if-stands.true)
+
+pub returns-then-c-ne92 : goal.returns-then-c-ne92
+returns-then-c-ne92 c = other-letter c.args.plain c.args.text.now c.in_ok-c.rest.now c.in_ok-c.c c.in_ok-c.ensures (sym c.stands.ensures ∙ c.if-stands.false) c.if-c-ne92.true
+
+pub returns : goal.returns
+returns c = escaped-letter c.args.plain c.args.text.now c.in_ok-c.rest.now c.in_ok-c.c c.escape.result c.in_ok-c.ensures c.if-c-ne92.false c.escape.ensures

@@ -1,0 +1,9 @@
+pub mod Fronts
+pub mod Splits
+pub mod Letters
+pub mod Texts
+pub mod Stops
+pub mod Named
+pub mod Searches
+pub mod Chains
+pub mod Spelled
