@@ -1,0 +1,7 @@
+mod Examples
+pub mod Finds
+pub mod Forms
+pub mod Lists
+pub mod Places
+pub mod Spaces
+pub mod Steps
