@@ -1,9 +1,7 @@
-mod Names
-mod WordLaws
-mod Walk
-mod Chosen
+mod Rows
 mod Few
 mod Parts
+mod Unnumbered
 mod Reports
 mod Steps
 pub mod Pages

@@ -2,8 +2,8 @@
 use Rattle.std.specs.Prelude.{ℕ, ◌≡◌, Bool, true, false, Result, Ok, Err}
 use Rattle.cosmetic_top.specs.declared.status.Status.{Status}
 use Rattle.cosmetic_top.specs.declared.status.Status.TheVariants.{Done, Usage, ReadFault, WriteFault, Refused, NoMemory}
-use Rattle.cosmetic_top.specs.declared.writing.ReportError.{ReportError}
-use Rattle.cosmetic_top.specs.declared.writing.ReportError.TheVariants.{WriteFault as OutputFault, NoMemory as OutputMemory}
+use Rattle.hide_report.specs.declared.writing.ReportError.{ReportError}
+use Rattle.hide_report.specs.declared.writing.ReportError.TheVariants.{WriteFault as OutputFault, NoMemory as OutputMemory}
 
 -- an answer that isn't tied to the words and the files: it comes from a fault or from want of memory
 abbrev pub is_failure : Status → Bool
@@ -47,14 +47,14 @@ IsPageError WriteFault = ⊥
 IsPageError (Refused refusal) = Unit {0}
 IsPageError NoMemory = Unit {0}
 
--- an error that a run may end with
-abbrev pub IsRunError : Status → Type 0
-IsRunError Done = ⊥
-IsRunError Usage = ⊥
-IsRunError ReadFault = Unit {0}
-IsRunError WriteFault = Unit {0}
-IsRunError (Refused refusal) = Unit {0}
-IsRunError NoMemory = Unit {0}
+-- a status that a report may end with
+abbrev pub IsReportStatus : Status → Type 0
+IsReportStatus Done = Unit {0}
+IsReportStatus Usage = ⊥
+IsReportStatus ReadFault = ⊥
+IsReportStatus WriteFault = Unit {0}
+IsReportStatus (Refused refusal) = ⊥
+IsReportStatus NoMemory = Unit {0}
 
 abbrev pub status_of : ReportError → Status
 status_of OutputFault = WriteFault

@@ -1,7 +1,5 @@
 pub mod Command
-pub mod Filters
-pub mod ListLines
-pub mod AnswerNames
+pub mod FilterSets
 pub mod Report
 pub mod Answers
 pub mod Output

@@ -3,6 +3,8 @@ use Rattle.std.specs.Prelude.{ℕ, List, [], Option, Some, None, Result, Ok, Err
 use Rattle.std.specs.Str.{is_utf8}
 use Rattle.std.specs.Str.Lossy.{utf8_valid_len}
 use Rattle.cos_source.specs.Mark.{without_mark}
+use Rattle.cos_patterns.specs.declared.written.Asked.{Asked}
+use Rattle.cos_patterns.specs.declared.written.Written.{Written}
 use Rattle.page_tree.specs.Forest.{Tree}
 use Rattle.page_tree.specs.Fragments.{Limit, TooDeep, TooManyNodes, limit_passed}
 use Rattle.html_meaning.specs.Page.{fragment, page}
@@ -72,12 +74,13 @@ abbrev pub due : Option Named → (List ℕ → Option (List ℕ)) → Status
 due None files = Usage
 due (Some names) files = status_due (inputs_due files names)
 
--- what inputs give; a byte order mark at the start of a file is skipped
-abbrev pub output_due : Result Inputs Status → List ℕ
-output_due (Ok inputs) = report_of (without_mark inputs.list) inputs.tree (without_mark inputs.script)
-output_due (Err status) = []
+module _ (large : List Asked) (unread : List Written) where
+  -- what inputs give, where a maker of patterns refused these; a byte order mark at the start of a file is skipped
+  unfoldable pub report_due : Result Inputs Status → List ℕ
+  report_due (Ok inputs) = report_of large unread (without_mark inputs.list) inputs.tree (without_mark inputs.script)
+  report_due (Err status) = []
 
--- what is written for a command; nothing where it isn't accepted
-abbrev pub output_of : Option Named → (List ℕ → Option (List ℕ)) → List ℕ
-output_of None files = []
-output_of (Some names) files = output_due (inputs_due files names)
+-- what is written for a command, where a maker of patterns refused these; nothing where the command isn't accepted
+abbrev pub output_of : Option Named → (List ℕ → Option (List ℕ)) → List Asked → List Written → List ℕ
+output_of None files large unread = []
+output_of (Some names) files large unread = report_due large unread (inputs_due files names)

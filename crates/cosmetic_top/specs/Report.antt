@@ -1,114 +1,67 @@
--- The texts that the program writes. Every line ends with LF; a filter is named LIST:LINE.
-use Rattle.std.specs.Prelude.{ℕ, List, [], ◌∷◌, ◌++◌, length, filter, codes, slice_get, Option, Some, None}
-use Rattle.std.specs.List.{flat_map}
-use Rattle.std.specs.Fmt.{decimal}
+-- The report of a list, a page and a script.
+use Rattle.std.specs.Prelude.{ℕ, List, [], ◌∷◌, ◌++◌, length, codes}
 use Rattle.cos_source.specs.Lines.{lines_of, numbered}
+use Rattle.cos_source.specs.Mark.{without_mark}
+use Rattle.cos_patterns.specs.declared.written.Asked.{Asked}
+use Rattle.cos_patterns.specs.declared.written.Written.{Written}
+use Rattle.cos_patterns.specs.Found.{pattern_found}
 use Rattle.page_tree.specs.Forest.{Tree}
-use Rattle.page_tree.specs.Standings.{all, name}
-use Rattle.page_tree.specs.Directions.{is_in}
-use Rattle.selector_meaning.specs.Meaning.{selects, never}
-use Rattle.selector_meaning.specs.Hidden.{rows_of, hidden}
-use Rattle.cosmetic_top.specs.declared.filters.ListFilter.{ListFilter}
-use Rattle.cosmetic_top.specs.Filters.{selectors_of, canonical_of}
+use Rattle.selector_tree.specs.declared.filter.Filter.{Filter}
+use Rattle.selector_meaning.specs.Hidden.{hidden}
 use Rattle.mutation_script.specs.Lines.{script_line}
 use Rattle.mutation_script.specs.Changes.{PageState, answer, after}
-use Rattle.cosmetic_top.specs.declared.answer.Answer.TheVariants.{Opened}
-use Rattle.cosmetic_top.specs.ListLines.{filters_in, notices_in}
-use Rattle.cosmetic_top.specs.AnswerNames.{answer_name, answer_given}
-
--- that a line is set aside
-abbrev pub notice_text : ℕ → List ℕ
-notice_text line = codes "note 1:" ++ decimal line ++ codes " set-aside NotYet\n"
-
-abbrev pub notices_text : List ℕ → List ℕ
-notices_text lines = flat_map notice_text lines
-
--- an active filter
-abbrev pub filter_text : ListFilter → List ℕ
-filter_text f = codes "filter 1:" ++ decimal f.line ++ codes " " ++ canonical_of f.test ++ codes "\n"
-
--- the address of the page, and how many filters are active
-abbrev pub count_text : ℕ → List ℕ
-count_text count = codes "page https://example.com/\nactive " ++ decimal count ++ codes "\n"
-
--- the address of the page, and the active filters
-abbrev pub head_text : List ListFilter → List ℕ
-head_text filters = count_text (length filters) ++ flat_map filter_text filters
-
--- the line of a filter, if there is one
-abbrev pub line_at : Option ListFilter → ℕ
-line_at None = 0
-line_at (Some f) = f.line
-
--- a space and the name of the filter at a place
-abbrev pub place_text : List ListFilter → ℕ → List ℕ
-place_text filters place = codes " 1:" ++ decimal (line_at (slice_get filters place))
-
--- a hidden element: its number, its name, and all filters that select it
-abbrev pub row_text : Tree → List ListFilter → ℕ × List ℕ → List ℕ
-row_text t filters row =
-    codes " " ++ decimal row.0 ++ codes " " ++ name t row.0 ++ flat_map (place_text filters) row.1 ++ codes "\n"
-
--- the hidden elements of a tree: each element that some filter selects, with all filters that do. The filters have no
--- pattern, and ask for no path.
-abbrev pub hidden_rows : Tree → List ListFilter → List (ℕ × List ℕ)
-hidden_rows t filters = hidden never t [] (selectors_of filters)
-
--- the rows of those among some nodes that are elements
-abbrev pub rows_of_nodes : Tree → List ListFilter → List ℕ → List (ℕ × List ℕ)
-rows_of_nodes t filters ns = rows_of (selects never t []) (selectors_of filters) (filter (is_in (all t)) ns)
-
--- the number of a step, and its answer
-abbrev pub step_line : ℕ → List ℕ → List ℕ
-step_line number answer = codes "step " ++ decimal number ++ codes " " ++ answer ++ codes "\n"
-
--- how many elements are hidden
-abbrev pub hidden_line : ℕ → List ℕ
-hidden_line count = codes "hidden " ++ decimal count ++ codes "\n"
-
--- the first two lines of a step
-abbrev pub answer_text : ℕ → List ℕ → ℕ → List ℕ
-answer_text number answer count = step_line number answer ++ hidden_line count
-
--- a step, with the hidden elements of the tree as it then stands
-abbrev pub step_text : ℕ → List ℕ → Tree → List ListFilter → List ℕ
-step_text number answer t filters =
-    answer_text number answer (length (hidden_rows t filters)) ++ flat_map (row_text t filters) (hidden_rows t filters)
-
--- the end of the report, with the number of lines of the script
-abbrev pub end_text : ℕ → List ℕ
-end_text lines = codes "end " ++ decimal lines ++ codes "\n"
+use Rattle.list_reader.specs.Filters.{filters_in, notices_in}
+use Rattle.hide_report.specs.declared.answer.Answer.{Answer}
+use Rattle.hide_report.specs.declared.answer.Answer.TheVariants.{Opened}
+use Rattle.hide_report.specs.Answers.{answer_name, answer_given}
+use Rattle.hide_report.specs.Texts.{notices_text, head_text, step_text, end_text}
+use Rattle.cosmetic_top.specs.declared.reading.Reading.{Reading}
+use Rattle.cosmetic_top.specs.FilterSets.{selectors_of}
 
 -- a tree of the page at its address, whose path is `/`
 abbrev pub at_tree : Tree → PageState
 at_tree t = record { tree = t; path = codes "/" }
 
+-- the hidden elements of a page, each with the places of all filters that select it: every filter is asked on every element
+abbrev pub hidden_by : List Filter → PageState → List (ℕ × List ℕ)
+hidden_by filters s = hidden pattern_found s.tree s.path (selectors_of filters)
+
+-- a step, with the hidden elements of the page as it then stands
+abbrev pub page_step : ℕ → Answer → List Filter → PageState → List ℕ
+page_step number given filters s = step_text number (answer_name given) s.tree filters (hidden_by filters s)
+
 -- the step after a line of the script
-abbrev pub line_text : PageState → List ListFilter → ℕ × List ℕ → List ℕ
-line_text s filters line =
+abbrev pub line_text : List Filter → PageState → ℕ × List ℕ → List ℕ
+line_text filters s line =
     let read = script_line line.1 in
-    step_text line.0 (answer_name (answer_given (answer read s))) (after read s).tree filters
+    page_step line.0 (answer_given (answer read s)) filters (after read s)
 
 -- the steps after the numbered lines of a script, each with the page as the lines so far leave it
-abbrev pub lines_text : PageState → List ListFilter → List (ℕ × List ℕ) → List ℕ
-lines_text s filters [] = []
-lines_text s filters (line ∷ lines) = line_text s filters line ++ lines_text (after (script_line line.1) s) filters lines
+abbrev pub lines_text : List Filter → PageState → List (ℕ × List ℕ) → List ℕ
+lines_text filters s [] = []
+lines_text filters s (line ∷ lines) = line_text filters s line ++ lines_text filters (after (script_line line.1) s) lines
 
 -- the steps after a script, and the end
-abbrev pub script_text : Tree → List ListFilter → List ℕ → List ℕ
-script_text t filters script =
-    lines_text (at_tree t) filters (numbered 1 (lines_of script)) ++ end_text (length (lines_of script))
+abbrev pub script_text : List Filter → Tree → List ℕ → List ℕ
+script_text filters t script =
+    lines_text filters (at_tree t) (numbered 1 (lines_of script)) ++ end_text (length (lines_of script))
 
 -- all steps and the end
-abbrev pub steps_text : List ListFilter → Tree → List ℕ → List ℕ
-steps_text filters t script = step_text 0 (answer_name Opened) t filters ++ script_text t filters script
+abbrev pub steps_text : List Filter → Tree → List ℕ → List ℕ
+steps_text filters t script = page_step 0 Opened filters (at_tree t) ++ script_text filters t script
 
 -- what a report says of a page and of a script
-abbrev pub page_text : List ListFilter → Tree → List ℕ → List ℕ
-page_text filters t script = head_text filters ++ steps_text filters t script
+abbrev pub page_text : List Filter → Tree → List ℕ → List ℕ
+page_text filters t script = head_text (codes "https://example.com/") filters ++ steps_text filters t script
 
--- the whole report: the notices of the list, and what is said of the page and of the script
-abbrev pub report_of : List ℕ → Tree → List ℕ → List ℕ
-report_of list t script =
-    let lines = numbered 1 (lines_of list) in
-    notices_text (notices_in lines) ++ page_text (filters_in lines) t script
+-- the report by what was read
+abbrev pub text_of : Reading → List ℕ
+text_of reading = notices_text 1 reading.notices ++ page_text reading.filters.active reading.tree (without_mark reading.script)
+
+module _ (large : List Asked) (unread : List Written) where
+  -- the whole report: the notices of the list, and what is said of the page and of the script. The patterns `large` were
+  -- refused for size, and those in `unread` couldn't be read.
+  unfoldable pub report_of : List ℕ → Tree → List ℕ → List ℕ
+  report_of list t script =
+      let lines = numbered 1 (lines_of list) in
+      notices_text 1 (notices_in large unread lines) ++ page_text (filters_in large unread 1 lines) t script

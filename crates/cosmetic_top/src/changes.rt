@@ -3,11 +3,11 @@ ghost use Rattle.std.specs.Prelude.{◌≡◌, true, Ok, Err, IfOk, IfErr, OnOk,
 ghost use Rattle.std.specs.Result.{result_unwrap_or};
 ghost use Rattle.mutation_script.specs.Lines.{script_line};
 ghost use Rattle.mutation_script.specs.Changes.{answer, after, change, change_answer, is_built};
-ghost use Rattle.cosmetic_top.specs.AnswerNames.{answer_given};
+ghost use Rattle.hide_report.specs.Answers.{answer_given};
 ghost use Rattle.cosmetic_top.specs.Report.{at_tree};
 
-use crate::answer::Answer;
 use dom_arena::{Dom, DomError};
+use hide_report::Answer;
 use mutation_script::{Mutation, ScriptLine, read_line};
 use std::alloc::{AllocError, Global};
 

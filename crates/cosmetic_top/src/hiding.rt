@@ -1,127 +1,84 @@
 // Which elements of a page are hidden: every filter is asked on every element.
-ghost use Rattle.std.specs.Prelude.{◌≡◌, ◌<◌, ◌^◌, [], ◌∷◌, ◌++◌, map, length, IfOk, OnOk};
-ghost use Rattle.std.specs.Option.{option_copied};
-ghost use Rattle.page_tree.specs.Forest.{attrs_of};
-ghost use Rattle.selector_meaning.specs.Hidden.{places_from, with_row};
-ghost use Rattle.cosmetic_top.specs.Filters.{passes, passes_by, pair_of, row_of_content};
-ghost use Rattle.cosmetic_top.specs.Report.{hidden_rows, rows_of_nodes};
+ghost use Rattle.std.specs.Prelude.{◌≡◌, [], ◌++◌, map, IfOk, OnOk};
+ghost use Rattle.cos_patterns.specs.Found.{pattern_found};
+ghost use Rattle.selector_match.specs.Asked.{IsElement};
+ghost use Rattle.selector_meaning.specs.Hidden.{selected_places, with_row, hidden};
+ghost use Rattle.hide_report.specs.Texts.{pair_of};
+ghost use Rattle.cosmetic_top.specs.FilterSets.{MayBeAsked, selectors_of};
 
-use crate::words::has_word;
-use crate::{ListFilter, SimpleTest};
-use dom_arena::{Dom, NodeKind, NodeRef};
+use cos_outside::Steps;
+use cos_patterns::PatternTable;
+use dom_arena::Dom;
 use listed::Numbers;
-use selector_tree::{HiddenRow, Rows};
+use procedural_ops::{next_element, test};
+use selector_tree::{Active, HiddenRow, Rows};
 use std::alloc::{AllocError, Global};
+use std::sync::ledger::Ledger;
 
-/// The elements that some filter selects, in document order, each with the places of all filters that do.
-pub fn hidden_rows(alloc: Global, dom: &Dom, filters: &[ListFilter]) -> Result<Rows, AllocError>
-    requires { length filters.now < 2 ^ 32 }
-    ensures { IfOk result (λ rows. map pair_of rows ≡ hidden_rows dom.now filters.now) }
+/// The active filters, with the table of their patterns.
+#[derive(Drop)]
+pub struct FilterSet {
+    pub table: PatternTable,
+    pub active: Active,
+}
+
+/// The elements that some filter selects, in document order, each with the places of all filters that do. Each question
+/// whether a filter selects an element counts as one check.
+pub fn hidden_rows<L: Ledger>(
+    alloc: Global,
+    checks: &mut Steps<L>,
+    filters: &FilterSet,
+    dom: &Dom,
+    path: &str,
+) -> Result<Rows, AllocError>
+    requires { MayBeAsked filters.now }
+    ensures { IfOk result (λ rows. map pair_of rows ≡ hidden pattern_found dom.now path.now (selectors_of filters.now.active)) }
 {
     dom.is_tree();
     let mut rows = Rows::new(alloc);
-    let mut at = Some(0);
-    'nodes: while let Some(n) = at {
-        push_row(alloc, &mut rows, dom, filters, n)?;
-        at = dom.next_in_order(n);
+    let mut at = next_element(dom, 0);
+    'elements: while let Some(x) = at {
+        let places = selected_places(alloc, checks, filters, dom, path, x)?;
+        push_row(&mut rows, x, places)?;
+        at = next_element(dom, x);
     }
     Ok(rows)
 }
 
-// Adds the row of a node, if it is an element that some filter selects.
-fn push_row(
-    alloc: Global,
-    rows: &mut Rows,
-    dom: &Dom,
-    filters: &[ListFilter],
-    n: u32,
-) -> Result<(), AllocError>
-    requires { length filters.now < 2 ^ 32 }
-    ensures { OnOk result (map pair_of rows.new ≡ map pair_of rows.old ++ rows_of_nodes dom.now filters.now (n ∷ [])) }
-{
-    dom.is_tree();
-    match dom.node(n) {
-        Some(node) => push_node(alloc, rows, filters, n, &node),
-        None => Ok(()),
-    }
-}
-
-fn push_node(
-    alloc: Global,
-    rows: &mut Rows,
-    filters: &[ListFilter],
-    n: u32,
-    node: &NodeRef<'_>,
-) -> Result<(), AllocError>
-    requires { length filters.now < 2 ^ 32 }
-    ensures { OnOk result (map pair_of rows.new ≡ map pair_of rows.old ++ row_of_content filters.now n node.now) }
-{
-    match node.kind() {
-        NodeKind::Element => {
-            let places = passed_places(alloc, filters, node)?;
-            push_places(rows, n, places)
-        }
-        NodeKind::Document => Ok(()),
-        NodeKind::Text => Ok(()),
-        NodeKind::Comment => Ok(()),
-    }
-}
-
 // Adds the row of an element, if there are places.
-fn push_places(rows: &mut Rows, n: u32, places: Numbers) -> Result<(), AllocError>
-    ensures { OnOk result (map pair_of rows.new ≡ map pair_of rows.old ++ with_row n places []) }
+fn push_row(rows: &mut Rows, x: u32, places: Numbers) -> Result<(), AllocError>
+    ensures { OnOk result (map pair_of rows.new ≡ map pair_of rows.old ++ with_row x places []) }
 {
     if places.len() == 0 {
         return Ok(());
     }
     rows.push(HiddenRow {
-        node: n,
+        node: x,
         filters: places,
     })
 }
 
-// The places of the filters that an element passes.
-fn passed_places(
+// The places of the filters that select an element.
+fn selected_places<L: Ledger>(
     alloc: Global,
-    filters: &[ListFilter],
-    node: &NodeRef<'_>,
+    checks: &mut Steps<L>,
+    filters: &FilterSet,
+    dom: &Dom,
+    path: &str,
+    x: u32,
 ) -> Result<Numbers, AllocError>
-    requires { length filters.now < 2 ^ 32 }
-    ensures { IfOk result (λ places. places ≡ places_from 0 (λ f. passes_by (attrs_of node.now) f.test) filters.now) }
+    requires filters { MayBeAsked filters.now }
+    requires element { IsElement dom.now x }
+    ensures { IfOk result (λ places. places ≡ selected_places pattern_found dom.now path.now (selectors_of filters.now.active) x) }
 {
-    places_by(alloc, filters, node.attr("id"), node.attr("class"))
-}
-
-// The places of the filters that an element with this id and this `class` passes.
-fn places_by(
-    alloc: Global,
-    filters: &[ListFilter],
-    id: Option<&str>,
-    class: Option<&str>,
-) -> Result<Numbers, AllocError>
-    requires { length filters.now < 2 ^ 32 }
-    ensures { IfOk result (λ places. places ≡ places_from 0 (λ f. passes f.test (option_copied id.entry) (option_copied class.entry)) filters.now) }
-{
+    let table = &filters.table;
+    let active = &filters.active;
     let mut places = Numbers::new(alloc);
-    for (place, filter) in filters.iter().enumerate() {
-        if passes(&filter.test, id, class) {
-            places.push(place as u32)?;
+    for place in 0..active.len() as u32 {
+        let verdict = test(alloc, dom, path, table, active, place, x, checks)?;
+        if verdict.yes() {
+            places.push(place)?;
         }
     }
     Ok(places)
-}
-
-fn passes(test: &SimpleTest, id: Option<&str>, class: Option<&str>) -> bool
-    ensures { result ≡ passes test.now (option_copied id.entry) (option_copied class.entry) }
-{
-    match test {
-        SimpleTest::Class(name) => match class {
-            Some(value) => has_word(value.as_bytes(), name.as_str().as_bytes()),
-            None => false,
-        },
-        SimpleTest::Id(name) => match id {
-            Some(value) => name.as_str() == value,
-            None => false,
-        },
-    }
 }

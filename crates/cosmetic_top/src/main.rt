@@ -1,301 +1,59 @@
 //! The program `cosmetic`: which elements of a page are hidden, by which filter of a list.
 #![tactic(auto)]
 
-mod answer;
+ghost use Rattle.std.specs.Prelude.{◌≡◌, ◌<◌};
+
 mod changes;
 mod command;
 mod end;
-mod filters;
 mod hiding;
 mod inputs;
+mod reading;
 mod run;
 mod status;
-mod texts;
-mod words;
 mod writing;
 
-pub use answer::Answer;
 pub use changes::follow_line;
 pub use command::{Command, command_of};
-use cos_outside::{FileShelf, StdSink};
-pub use filters::{ListFilter, ListRead, SimpleTest, read_list};
-pub use hiding::hidden_rows;
+use cos_outside::{FileShelf, StdSink, Steps};
+use cos_patterns::CrateMaker;
+pub use hiding::{FilterSet, hidden_rows};
 pub use inputs::{Inputs, read_inputs};
+pub use reading::{Reading, read_all};
 pub use run::run;
 pub use status::{File, InputRefusal, Status};
+use std::marker::Brand;
 use std::process::ExitCode;
-pub use writing::{ReportError, write_end, write_head, write_notices, write_report, write_step};
+use std::sync::ledger::{Blank, Ledger};
+pub use writing::write_report;
+
+#[cfg(test)]
+mod filter_tests;
+#[cfg(test)]
+mod tests;
 
 /// How many bytes a file has at most; of lists, all together.
 pub const FILE_LIMIT: usize = 16_777_216;
 
-/// How many bytes a line of a filter has at most.
-pub const LINE_LIMIT: usize = 65_536;
-
 fn main(rt: HostRuntime) -> ExitCode {
     let status = match end::words(&rt) {
-        Ok(words) => {
-            let mut shelf = FileShelf::new(&rt);
-            let mut out = StdSink::new(&rt);
-            run(rt.alloc(), words.as_slice(), &mut shelf, &mut out)
-        }
+        Ok(words) => run_outside::<Brand>(&rt, words.as_slice(), Blank::new(1)),
         Err(status) => status,
     };
     end::tell(&rt, status);
     ExitCode::from(end::code_of(status))
 }
 
-#[cfg(test)]
-mod tests {
-    use super::*;
-    use cos_outside::{Calls, MemoryShelf, MemorySink, NamedFiles};
-    use listed::Bytes;
-    use std::alloc::{AllocError, Global};
-    use std::test::Fail;
-
-    const LIST: &str = "##.ad\n###top\n! c\n";
-
-    const PAGE: &str = "<div id=\"top\"><span class=\"ad\">x</span></div>";
-
-    fn report() -> &'static str {
-        "note 1:3 set-aside NotYet\npage https://example.com/\nactive 2\nfilter 1:1 .ad\nfilter 1:2 #top\nstep 0 opened\nhidden 2\n 1 div 1:2\n 2 span 1:1\nend 0\n"
-    }
-
-    fn unhidden() -> &'static str {
-        "note 1:3 set-aside NotYet\npage https://example.com/\nactive 2\nfilter 1:1 .ad\nfilter 1:2 #top\nstep 0 opened\nhidden 0\nend 0\n"
-    }
-
-    fn marked() -> &'static str {
-        "page https://example.com/\nactive 1\nfilter 1:1 .x\nstep 0 opened\nhidden 1\n 1 p 1:1\nstep 1 ok\nhidden 0\nend 1\n"
-    }
-
-    const NOTHING: &str = "page https://example.com/\nactive 0\nstep 0 opened\nhidden 0\nend 0\n";
-
-    fn bytes_of(alloc: Global, text: &str) -> Result<Bytes, AllocError> {
-        let mut bytes = Bytes::new(alloc);
-        bytes.extend(text.as_bytes())?;
-        Ok(bytes)
-    }
-
-    fn call(alloc: Global, number: u64) -> Result<Calls, AllocError> {
-        let mut calls = Calls::new(alloc);
-        calls.push(number)?;
-        Ok(calls)
-    }
-
-    fn words_of(alloc: Global, text: &str) -> Result<Vec<String>, AllocError> {
-        let mut words = Vec::new(alloc);
-        for word in text.split_whitespace() {
-            words.push(String::from_str(alloc, word)?)?;
-        }
-        Ok(words)
-    }
-
-    const ONE: &str = "<div class=\"x\">t</div>";
-
-    // a script of changes, of lines that are refused, and of a word that isn't read yet
-    const CHANGES: &[u8] =
-        b"attr 1 class y\nunset 1 class\nattr 1 class x z\nmove 1 0 0\nattr 2 id q\nattr 5 id q\n";
-
-    fn changed() -> &'static str {
-        "page https://example.com/\nactive 1\nfilter 1:1 .x\nstep 0 opened\nhidden 1\n 1 div 1:1\nstep 1 ok\nhidden 0\nstep 2 ok\nhidden 0\nstep 3 ok\nhidden 1\n 1 div 1:1\nstep 4 bad NotYet\nhidden 1\n 1 div 1:1\nstep 5 refused NotElement 2\nhidden 1\n 1 div 1:1\nstep 6 refused NoSuchNode 5\nhidden 1\n 1 div 1:1\nend 6\n"
-    }
-
-    // what was written where the step of the second line can't be
-    fn changed_once() -> &'static str {
-        "page https://example.com/\nactive 1\nfilter 1:1 .x\nstep 0 opened\nhidden 1\n 1 div 1:1\nstep 1 ok\nhidden 0\n"
-    }
-
-    // a line of each cause, lines that end with CR LF, and a last line that nothing ends
-    const FAULTY: &[u8] =
-        b"\xff\nfly\nattr 1\nattr 01 id q\nunset 4294967296 id\nattr 1 a=b c\nunset 1 class x\n \t\r\nattr 0 id q\r\nattr 1 class w  x";
-
-    fn faults() -> &'static str {
-        "page https://example.com/\nactive 1\nfilter 1:1 .x\nstep 0 opened\nhidden 1\n 1 div 1:1\nstep 1 bad NotUtf8\nhidden 1\n 1 div 1:1\nstep 2 bad UnknownWord\nhidden 1\n 1 div 1:1\nstep 3 bad MissingField\nhidden 1\n 1 div 1:1\nstep 4 bad BadNumber\nhidden 1\n 1 div 1:1\nstep 5 bad BadNumber\nhidden 1\n 1 div 1:1\nstep 6 bad BadName\nhidden 1\n 1 div 1:1\nstep 7 bad ExtraField\nhidden 1\n 1 div 1:1\nstep 8 blank\nhidden 1\n 1 div 1:1\nstep 9 refused IsDocument\nhidden 1\n 1 div 1:1\nstep 10 ok\nhidden 1\n 1 div 1:1\nend 10\n"
-    }
-
-    fn shelf_of(
-        alloc: Global,
-        list: &str,
-        page: &str,
-        script: &[u8],
-        fails: u64,
-    ) -> Result<MemoryShelf, AllocError> {
-        let mut lines = Bytes::new(alloc);
-        lines.extend(script)?;
-        let mut files = NamedFiles::new(alloc);
-        files.push((bytes_of(alloc, "L")?, bytes_of(alloc, list)?))?;
-        files.push((bytes_of(alloc, "P")?, bytes_of(alloc, page)?))?;
-        files.push((bytes_of(alloc, "S")?, lines))?;
-        Ok(MemoryShelf::new(alloc, files, 4096, call(alloc, fails)?))
-    }
-
-    // The shelf's calls are `begin` and two of `next` for each file that isn't empty; the sink's are one for each piece of the
-    // report that isn't empty.
-    #[test]
-    fn a_run_ends_and_writes_as_its_input_says(rt: HostRuntime) -> Result<(), Fail> {
-        let alloc = rt.alloc();
-        let fault = Status::WriteFault;
-        let notice = "note 1:3 set-aside NotYet\n";
-        for (words, list, page, script, shelf_fails, sink_fails, status, written) in [
-            (
-                "apply L P",
-                LIST,
-                PAGE,
-                CHANGES,
-                99,
-                99,
-                Status::Done,
-                report(),
-            ),
-            ("apply L P", "", "", CHANGES, 99, 99, Status::Done, NOTHING),
-            (
-                "apply L P",
-                LIST,
-                "<div>",
-                CHANGES,
-                99,
-                99,
-                Status::Done,
-                unhidden(),
-            ),
-            (
-                "apply L P S",
-                "\u{feff}##.x",
-                "\u{feff}<P class=x>",
-                b"\xef\xbb\xbfattr 1 class y",
-                99,
-                99,
-                Status::Done,
-                marked(),
-            ),
-            ("apply L", LIST, PAGE, CHANGES, 99, 99, Status::Usage, ""),
-            (
-                "apply L P S S",
-                LIST,
-                PAGE,
-                CHANGES,
-                99,
-                99,
-                Status::Usage,
-                "",
-            ),
-            ("lists L P", LIST, PAGE, CHANGES, 99, 99, Status::Usage, ""),
-            (
-                "apply L Q",
-                LIST,
-                PAGE,
-                CHANGES,
-                99,
-                99,
-                Status::ReadFault,
-                "",
-            ),
-            (
-                "apply L P",
-                LIST,
-                PAGE,
-                CHANGES,
-                1,
-                99,
-                Status::ReadFault,
-                "",
-            ),
-            (
-                "apply L P",
-                LIST,
-                PAGE,
-                CHANGES,
-                6,
-                99,
-                Status::ReadFault,
-                "",
-            ),
-            ("apply L P", LIST, PAGE, CHANGES, 99, 1, fault, ""),
-            ("apply L P", LIST, PAGE, CHANGES, 99, 2, fault, notice),
-            (
-                "apply L P S",
-                "##.x",
-                ONE,
-                CHANGES,
-                99,
-                99,
-                Status::Done,
-                changed(),
-            ),
-            (
-                "apply L P S",
-                "##.x",
-                ONE,
-                FAULTY,
-                99,
-                99,
-                Status::Done,
-                faults(),
-            ),
-            (
-                "apply L P S",
-                "##.x",
-                ONE,
-                CHANGES,
-                99,
-                4,
-                fault,
-                changed_once(),
-            ),
-            ("apply L P S", "", "", b"", 99, 99, Status::Done, NOTHING),
-            (
-                "apply L P Q",
-                "##.x",
-                ONE,
-                CHANGES,
-                99,
-                99,
-                Status::ReadFault,
-                "",
-            ),
-        ] {
-            let mut shelf = shelf_of(alloc, list, page, script, shelf_fails)?;
-            let mut out = MemorySink::new(alloc, call(alloc, sink_fails)?);
-            let words = words_of(alloc, words)?;
-            let ended = run(alloc, words.as_slice(), &mut shelf, &mut out);
-            assert_eq!(rt;
-                ended,
-                status,
-                "on {list:?} and {page:?}, with {shelf_fails} and {sink_fails}"
-            );
-            assert_eq!(rt; out.written(), written.as_bytes());
-        }
-        Ok(())
-    }
-
-    // What a run says of a page that it refuses, where the script is read behind it.
-    fn refusal(alloc: Global, page: &[u8]) -> Result<Status, AllocError> {
-        let mut bytes = Bytes::new(alloc);
-        bytes.extend(page)?;
-        let mut files = NamedFiles::new(alloc);
-        files.push((bytes_of(alloc, "L")?, bytes_of(alloc, LIST)?))?;
-        files.push((bytes_of(alloc, "P")?, bytes))?;
-        let mut shelf = MemoryShelf::new(alloc, files, 4096, Calls::new(alloc));
-        let mut out = MemorySink::new(alloc, Calls::new(alloc));
-        let words = words_of(alloc, "apply L P Q")?;
-        Ok(run(alloc, words.as_slice(), &mut shelf, &mut out))
-    }
-
-    #[test]
-    fn pages_are_refused_before_the_script_is_read(rt: HostRuntime) -> Result<(), Fail> {
-        let alloc = rt.alloc();
-        let mut deep = String::new(alloc);
-        for _ in 0..512 {
-            deep.push_str("<b>")?;
-        }
-        let refused = refusal(alloc, deep.as_bytes())?;
-        assert_eq!(rt; refused, Status::ReadFault);
-        deep.push_str("<b>")?;
-        let refused = refusal(alloc, deep.as_bytes())?;
-        assert_eq!(rt; refused, Status::Refused(InputRefusal::PageTooDeep));
-        let refused = refusal(alloc, b"\xef\xbb\xbf<p>\xff")?;
-        assert_eq!(rt; refused, Status::Refused(InputRefusal::PageNotUtf8(6)));
-        Ok(())
-    }
+// Runs over the system's files and output.
+fn run_outside<L: Ledger>(rt: &HostRuntime, words: &[String], blank: Blank) -> Status
+    requires name { blank.name ≡ L.name }
+    requires parts { blank.parts ≡ L.parts }
+    requires some { 0 < blank.parts }
+{
+    let alloc = rt.alloc();
+    let mut shelf = FileShelf::new(rt);
+    let mut out = StdSink::new(rt);
+    let mut maker = CrateMaker::new(alloc);
+    let mut checks = Steps::<L>::new(blank);
+    run(alloc, words, &mut shelf, &mut out, &mut maker, &mut checks)
 }

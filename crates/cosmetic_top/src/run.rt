@@ -1,17 +1,21 @@
 // The program's one call.
-ghost use Rattle.std.specs.Prelude.{◌≡◌, ◌↔◌, ◌≤◌, ◌++◌, ◌∷◌, [], false, None, Some, length, map, string_bytes, IsTrue, IfErr, OnOk, IsErrOf, MatchOption};
+ghost use Rattle.std.specs.Prelude.{◌≡◌, ◌↔◌, ◌<◌, ◌^◌, ◌++◌, [], false, None, length, map, string_bytes, IsTrue};
 ghost use Rattle.cos_outside.specs.Causes.{Rose};
 ghost use Rattle.cos_outside.specs.Runs.{AppendsPrefix};
-ghost use Rattle.cosmetic_top.specs.Command.{names_of, in_order, named};
-ghost use Rattle.cosmetic_top.specs.Output.{due, output_of, inputs_due, status_due, output_due};
-ghost use Rattle.cosmetic_top.specs.Answers.{is_failure, is_refusal, IsRunError};
+ghost use Rattle.cosmetic_top.specs.Command.{names_of, in_order};
+ghost use Rattle.cosmetic_top.specs.Output.{due, output_of};
+ghost use Rattle.cosmetic_top.specs.Report.{text_of};
+ghost use Rattle.cosmetic_top.specs.FilterSets.{MayBeAsked};
+ghost use Rattle.cosmetic_top.specs.Answers.{is_failure, is_refusal, IsReportStatus};
 
 use crate::Status;
-use crate::command::{Command, command_of};
-use crate::inputs::read_inputs;
+use crate::command::command_of;
+use crate::reading::{Reading, read_all};
 use crate::writing::write_report;
-use cos_outside::{Shelf, Sink};
+use cos_outside::{Shelf, Sink, Steps};
+use cos_patterns::Maker;
 use std::alloc::Global;
+use std::sync::ledger::Ledger;
 
 /// All that the program does. `words` are those behind the program's own name.
 ///
@@ -21,7 +25,19 @@ use std::alloc::Global;
 /// decides, in the order of the files: `TooLong` for a file past `FILE_LIMIT` bytes; for the page then `PageNotUtf8`, and
 /// `PageTooDeep` or `PageTooManyNodes` for the first of its nodes that passes a limit. Nothing is written before all input is
 /// accepted.
-pub fn run<S: Shelf, O: Sink>(alloc: Global, words: &[String], shelf: &mut S, out: &mut O) -> Status
+///
+/// `maker` makes the patterns of the list, and each question whether a filter selects an element counts as one of the
+/// `checks`.
+pub fn run<S: Shelf, O: Sink, M: Maker, L: Ledger>(
+    alloc: Global,
+    words: &[String],
+    shelf: &mut S,
+    out: &mut O,
+    maker: &mut M,
+    checks: &mut Steps<L>,
+) -> Status
+    requires large { M.large maker.old ≡ [] }
+    requires unread { M.unread maker.old ≡ [] }
     ensures usage { (result ≡ Status.Usage) ↔ (names_of (map string_bytes words.now) ≡ None) }
     // Where the shelf tells its files, an answer that is no failure is the one that is due. So each refusal comes exactly
     // where it is due, in the order of the files, and where no count of faults rose the answer is due or NoMemory.
@@ -35,44 +51,37 @@ pub fn run<S: Shelf, O: Sink>(alloc: Global, words: &[String], shelf: &mut S, ou
         AppendsPrefix (S.begun shelf.old) (S.begun shelf.new) (in_order (names_of (map string_bytes words.now))) }
 
     ensures output { IsTrue (S.tells shelf.old) → IsTrue (O.tells out.old) → result ≡ Status.Done →
-        O.written out.new ≡ O.written out.old ++ output_of (names_of (map string_bytes words.now)) (S.files shelf.old) }
+        O.written out.new ≡ O.written out.old ++ output_of (names_of (map string_bytes words.now)) (S.files shelf.old) (M.large maker.new) (M.unread maker.new) }
     // Whatever the answer, what was written is a prefix of that output, and nothing where the command isn't accepted.
     ensures front { IsTrue (S.tells shelf.old) → IsTrue (O.tells out.old) →
-        AppendsPrefix (O.written out.old) (O.written out.new) (output_of (names_of (map string_bytes words.now)) (S.files shelf.old)) }
+        AppendsPrefix (O.written out.old) (O.written out.new) (output_of (names_of (map string_bytes words.now)) (S.files shelf.old) (M.large maker.new) (M.unread maker.new)) }
     ensures silent { IsTrue (O.tells out.old) → IsTrue (is_refusal result) → O.written out.new ≡ O.written out.old }
 {
-    match command_of(words) {
-        Some(command) => match apply(alloc, &command, shelf, out) {
-            Ok(()) => Status::Done,
-            Err(status) => status,
-        },
-        None => Status::Usage,
+    let Some(command) = command_of(words) else {
+        return Status::Usage;
+    };
+    match read_all(alloc, &command, shelf, maker) {
+        Ok(reading) => report(alloc, out, checks, reading),
+        Err(status) => status,
     }
 }
 
-// Reads the inputs, and writes the report. An `Err` is none of Done and Usage.
-fn apply<S: Shelf, O: Sink>(
+// Writes the report of what was read.
+fn report<O: Sink, L: Ledger>(
     alloc: Global,
-    command: &Command<'_>,
-    shelf: &mut S,
     out: &mut O,
-) -> Result<(), Status>
-    ensures kinds { IfErr result IsRunError }
-    ensures done { IsTrue (S.tells shelf.old) → OnOk result
-        (status_due (inputs_due (S.files shelf.old) (named command.now)) ≡ Status.Done) }
-    ensures refused { IsTrue (S.tells shelf.old) → IfErr result (λ status. is_failure status ≡ false →
-        status ≡ status_due (inputs_due (S.files shelf.old) (named command.now))) }
-    ensures read_fault { IsErrOf result Status.ReadFault → Rose (S.faults shelf.old) (S.faults shelf.new) }
-    ensures write_fault { IsErrOf result Status.WriteFault → Rose (O.faults out.old) (O.faults out.new) }
-    ensures begun { IsTrue (S.tells shelf.old) →
-        AppendsPrefix (S.begun shelf.old) (S.begun shelf.new) (in_order (Some (named command.now))) }
-    ensures output { IsTrue (S.tells shelf.old) → IsTrue (O.tells out.old) → OnOk result
-        (O.written out.new ≡ O.written out.old ++ output_due (inputs_due (S.files shelf.old) (named command.now))) }
-    ensures front { IsTrue (S.tells shelf.old) → IsTrue (O.tells out.old) →
-        AppendsPrefix (O.written out.old) (O.written out.new) (output_due (inputs_due (S.files shelf.old) (named command.now))) }
-    ensures silent { IsTrue (O.tells out.old) → IfErr result (λ status. IsTrue (is_refusal status) → O.written out.new ≡ O.written out.old) }
+    checks: &mut Steps<L>,
+    reading: Reading,
+) -> Status
+    requires filters { MayBeAsked reading.filters }
+    requires script { length reading.script < 2 ^ 32 }
+    ensures kinds { IsReportStatus result }
+    ensures fault { result ≡ Status.WriteFault → Rose (O.faults out.old) (O.faults out.new) }
+    ensures whole { IsTrue (O.tells out.old) → result ≡ Status.Done → O.written out.new ≡ O.written out.old ++ text_of reading }
+    ensures front { IsTrue (O.tells out.old) → AppendsPrefix (O.written out.old) (O.written out.new) (text_of reading) }
 {
-    let inputs = read_inputs(alloc, command, shelf)?;
-    write_report(alloc, out, inputs)?;
-    Ok(())
+    match write_report(alloc, out, checks, reading) {
+        Ok(()) => Status::Done,
+        Err(error) => Status::from(error),
+    }
 }

@@ -1,6 +1,7 @@
 ghost use Rattle.std.specs.Prelude.{◌≡◌};
 
-use crate::writing::ReportError;
+use hide_report::ReportError;
+use std::alloc::AllocError;
 
 /// A file that the words name.
 #[derive(Clone, Copy, Debug, PartialEq, Eq)]
@@ -51,5 +52,15 @@ impl From<ReportError> for Status {
             ReportError::WriteFault => Status::WriteFault,
             ReportError::NoMemory => Status::NoMemory,
         }
+    }
+}
+
+impl From<AllocError> for Status {
+    ghost use Rattle.cosmetic_top.specs.declared.status.Status.TheVariants.{NoMemory};
+
+    ghost from_gives = { λ _ status. status ≡ NoMemory };
+
+    fn from(_: AllocError) -> Self {
+        Status::NoMemory
     }
 }

@@ -1,18 +1,25 @@
-use Rattle.std.proofs.Common.{◌≡◌, ◌<◌, ◌++◌, ℕ, length, map, Some}
-use Rattle.page_tree.specs.Forest.{rooted, numbers}
-use Rattle.cosmetic_top.specs.Filters.{pair_of}
-use Rattle.cosmetic_top.specs.Report.{hidden_rows, rows_of_nodes}
-use Rattle.cosmetic_top.proofs.Walk.{times, left_at}
+use Rattle.std.proofs.Common.{◌≡◌, ◌++◌, ℕ, Some, true, map, length}
+use Rattle.page_tree.specs.Standings.{all}
+use Rattle.page_tree.specs.Directions.{is_in}
+use Rattle.cos_patterns.specs.Found.{pattern_found}
+use Rattle.selector_meaning.specs.Hidden.{rows_of, hidden}
+use Rattle.selector_meaning.specs.Meaning.{selects}
+use Rattle.selector_match.specs.Asked.{IsElement}
+use Rattle.procedural_ops.specs.Walks.{elements_behind, order}
+use Rattle.procedural_ops.proofs.Walking.{from_one}
+use Rattle.hide_report.specs.Texts.{pair_of}
+use Rattle.cosmetic_top.specs.FilterSets.{selectors_of}
 use Rattle.cosmetic_top.proofs.hiding.hidden_rows.Given as goal
 
--- the rows so far and those of the nodes that are left are all rows; and the walk stands at a node, or at the end
-abbrev pub invariant-nodes : goal.invariant-nodes
-invariant-nodes l =
-    let order = numbers (rooted l.dom.nodes) in
+-- the rows so far and those of the elements that are left are all rows
+abbrev pub invariant-elements : goal.invariant-elements
+invariant-elements g l =
+    let selectors = selectors_of l.filters.active in
     record {
-      rows : map pair_of l.rows ++ rows_of_nodes l.dom l.filters (left_at l.at order) ≡ hidden_rows l.dom l.filters;
-      there : (k : ℕ) → l.at ≡ Some k → 0 < times k order;
+      rows : map pair_of l.rows ++ rows_of (selects pattern_found l.dom l.path) selectors (from_one (elements_behind l.dom (order l.dom)) l.at) ≡ hidden pattern_found l.dom l.path selectors;
+      element : (m : ℕ) → l.at ≡ Some m → IsElement l.dom m;
+      there : (m : ℕ) → l.at ≡ Some m → is_in (order l.dom) m ≡ true;
     }
 
-abbrev pub decreases-nodes : goal.decreases-nodes
-decreases-nodes l = length (left_at l.at (numbers (rooted l.dom.nodes)))
+abbrev pub decreases-elements : goal.decreases-elements
+decreases-elements g l = length (from_one (elements_behind l.dom (order l.dom)) l.at)

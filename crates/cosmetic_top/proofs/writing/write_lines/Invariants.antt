@@ -10,7 +10,7 @@ invariant-lines g l =
     let sink = g.O.Sink in
     record {
       told : sink.tells l.out ≡ sink.tells l.fn.out;
-      written : IsTrue (sink.tells l.fn.out) → HasLeft (sink.written l.fn.out) (sink.written l.out) (lines_text (at_tree l.fn.dom) l.filters (numbered 1 (lines_of l.script))) (lines_text (at_tree l.dom) l.filters l.lines);
+      written : IsTrue (sink.tells l.fn.out) → HasLeft (sink.written l.fn.out) (sink.written l.out) (lines_text l.filters.active (at_tree l.fn.dom) (numbered 1 (lines_of l.script))) (lines_text l.filters.active (at_tree l.dom) l.lines);
       later : sink.faults l.fn.out ≤ sink.faults l.out;
       counted : l.count + length l.lines ≡ length (lines_of l.script);
     }

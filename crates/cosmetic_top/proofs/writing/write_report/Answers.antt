@@ -1,34 +1,41 @@
-use Rattle.std.proofs.Common.{◌≡◌, ◌<◌, ◌^◌, ◌++◌, ℕ, List, length, OnOk, ap, subst, sym, ◌∙◌}
+use Rattle.std.proofs.Common.{◌≡◌, ◌++◌, ℕ, List, IsTrue, OnOk, ap, subst, ◌∙◌}
 use Rattle.cos_outside.specs.Runs.{AppendsPrefix}
+use Rattle.cos_outside.proofs.Appending.{front_of_first, front_of_second}
 use Rattle.cos_source.specs.Mark.{without_mark}
-use Rattle.cosmetic_top.specs.declared.filters.ListFilter.{ListFilter}
-use Rattle.cosmetic_top.proofs.Few.{few_filters, unmarked_few}
-use Rattle.cosmetic_top.proofs.Reports.{report_text}
+use Rattle.hide_report.specs.Texts.{notices_text}
+use Rattle.cosmetic_top.specs.Report.{page_text}
+use Rattle.cosmetic_top.proofs.Parts.{both_whole}
 use Rattle.cosmetic_top.proofs.writing.write_report.Goals as goal
 
-pub write_read-requires-clause-filters : goal.write_read-requires-clause-filters
-write_read-requires-clause-filters g c =
-    subst (λ (filters : List ListFilter). length filters < 2 ^ 32) (sym (c.as_slice-3.ensures ∙ c.in_ok-read.ensures.filters))
-    (few_filters c.without_mark.result.now (unmarked_few c.args.inputs.list c.without_mark.result.now (c.without_mark.ensures ∙ ap without_mark c.as_slice.ensures) c.requires.list))
-
-pub write_read-requires-clause-script : goal.write_read-requires-clause-script
-write_read-requires-clause-script g c =
-    unmarked_few c.args.inputs.script c.without_mark-2.result.now (c.without_mark-2.ensures ∙ ap without_mark c.as_slice-4.ensures) c.requires.script
-
-pub returns-clause-whole : goal.returns-clause-whole
-returns-clause-whole g c = λ told.
+pub returns-in_err-write_notices-clause-front : goal.returns-in_err-write_notices-clause-front
+returns-in_err-write_notices-clause-front g c = λ told.
     let written = g.O.Sink.written in
-    let list : c.without_mark.result.now ≡ without_mark c.args.inputs.list = c.without_mark.ensures ∙ ap without_mark c.as_slice.ensures in
-    let script : c.without_mark-2.result.now ≡ without_mark c.args.inputs.script = c.without_mark-2.ensures ∙ ap without_mark c.as_slice-4.ensures in
-    subst (λ (text : List ℕ). OnOk c.write_read.result (written c.write_read.new.out ≡ written c.args.out.now ++ text))
-    (report_text (without_mark c.args.inputs.list) c.without_mark.result.now c.in_ok-read.read.notices c.as_slice-2.result.now (without_mark c.args.inputs.script) c.without_mark-2.result.now c.args.inputs.tree c.in_ok-read.read.filters c.as_slice-3.result.now
-    list c.as_slice-2.ensures c.as_slice-3.ensures script c.in_ok-read.ensures.notices c.in_ok-read.ensures.filters) (c.write_read.ensures.whole told)
+    let reading = c.args.reading in
+    front_of_first (written c.args.out.now) (written c.write_notices.new.out) (notices_text 1 reading.notices) (page_text reading.filters.active reading.tree (without_mark reading.script)) (c.write_notices.ensures.front told)
+
+pub returns-in_err-write_page-clause-front : goal.returns-in_err-write_page-clause-front
+returns-in_err-write_page-clause-front g c = λ told.
+    let written = g.O.Sink.written in
+    let reading = c.args.reading in
+    let tells : IsTrue (g.O.Sink.tells c.write_notices.new.out) = rw c.write_notices.ensures.told told in
+    let script : c.without_mark.result.now ≡ without_mark reading.script = c.without_mark.ensures ∙ ap without_mark c.as_slice.ensures in
+    let page = subst (λ (s : List ℕ). AppendsPrefix (written c.write_notices.new.out) (written c.write_page.new.out) (page_text reading.filters.active reading.tree s)) script (c.write_page.ensures.front tells) in
+    front_of_second (written c.args.out.now) (written c.write_notices.new.out) (written c.write_page.new.out) (notices_text 1 reading.notices) (page_text reading.filters.active reading.tree (without_mark reading.script)) (c.in_ok-write_notices.ensures.whole told) page
 
 pub returns-clause-front : goal.returns-clause-front
 returns-clause-front g c = λ told.
     let written = g.O.Sink.written in
-    let list : c.without_mark.result.now ≡ without_mark c.args.inputs.list = c.without_mark.ensures ∙ ap without_mark c.as_slice.ensures in
-    let script : c.without_mark-2.result.now ≡ without_mark c.args.inputs.script = c.without_mark-2.ensures ∙ ap without_mark c.as_slice-4.ensures in
-    subst (λ (text : List ℕ). AppendsPrefix (written c.args.out.now) (written c.write_read.new.out) text)
-    (report_text (without_mark c.args.inputs.list) c.without_mark.result.now c.in_ok-read.read.notices c.as_slice-2.result.now (without_mark c.args.inputs.script) c.without_mark-2.result.now c.args.inputs.tree c.in_ok-read.read.filters c.as_slice-3.result.now
-    list c.as_slice-2.ensures c.as_slice-3.ensures script c.in_ok-read.ensures.notices c.in_ok-read.ensures.filters) (c.write_read.ensures.front told)
+    let reading = c.args.reading in
+    let tells : IsTrue (g.O.Sink.tells c.write_notices.new.out) = rw c.write_notices.ensures.told told in
+    let script : c.without_mark.result.now ≡ without_mark reading.script = c.without_mark.ensures ∙ ap without_mark c.as_slice.ensures in
+    let page = subst (λ (s : List ℕ). AppendsPrefix (written c.write_notices.new.out) (written c.write_page.new.out) (page_text reading.filters.active reading.tree s)) script (c.write_page.ensures.front tells) in
+    front_of_second (written c.args.out.now) (written c.write_notices.new.out) (written c.write_page.new.out) (notices_text 1 reading.notices) (page_text reading.filters.active reading.tree (without_mark reading.script)) (c.in_ok-write_notices.ensures.whole told) page
+
+pub returns-clause-whole : goal.returns-clause-whole
+returns-clause-whole g c = λ told.
+    let written = g.O.Sink.written in
+    let reading = c.args.reading in
+    let tells : IsTrue (g.O.Sink.tells c.write_notices.new.out) = rw c.write_notices.ensures.told told in
+    let script : c.without_mark.result.now ≡ without_mark reading.script = c.without_mark.ensures ∙ ap without_mark c.as_slice.ensures in
+    let page = subst (λ (s : List ℕ). written c.write_page.new.out ≡ written c.write_notices.new.out ++ page_text reading.filters.active reading.tree s) script (c.in_ok-write_page.ensures.whole tells) in
+    both_whole (written c.args.out.now) (written c.write_notices.new.out) (written c.write_page.new.out) (notices_text 1 reading.notices) (page_text reading.filters.active reading.tree (without_mark reading.script)) (c.in_ok-write_notices.ensures.whole told) page

@@ -1,5 +1,0 @@
-use Rattle.cosmetic_top.proofs.WordLaws.{no_space}
-use Rattle.cosmetic_top.proofs.words.word_length.Goals as goal
-
-pub returns-in-None-clause-length : goal.returns-in-None-clause-length
-returns-in-None-clause-length c = no_space c.args.text.now c.in-None.ensures
