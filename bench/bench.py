@@ -10,11 +10,18 @@ It makes its own input in a temporary folder.
   and others), the largest first, without filters: reading them should reach 40 MB a second, with less than 25 bytes of memory
   for each byte. What this process holds, some 26 MB, is the least that is shown as the peak of a run.
 - Hostile pages, each in two sizes: the larger one should take at most about twice as long.
+- A list of selectors over a page of one element: how many lines are read in a second, their patterns and the text that is
+  written for each of them included.
+- The class and id lines of a real list, where Debian's webext-ublock-origin-firefox is installed, else lines made in that shape,
+  on a nested page: what one test costs.
+- 200 filters of each operator on a nested page: what one test costs, by operator.
+- Lists and pages of bad input: each run has to end with status 0.
 - A script of changes has every element asked again after each line: its time should grow as the number of its lines does,
   and its peak memory should not."""
 
 import argparse
 import os
+import re
 import subprocess
 import sys
 import tempfile
@@ -46,6 +53,52 @@ HOSTILE = {
 }
 
 
+# A hundred selectors in the shape of those in real lists: most are one class or id, and few have operators. Each gets the
+# number of its line.
+SELECTORS = (
+    [".ad-{}", ".banner_{}", "#ad{}", "#google_ads_{}", ".sponsor-{}-top", ".post.is-ad-{}", "#AdBox{}"] * 10
+    + [".page-{} > .ad", "div.box-{} .promo", "#main-{} > div > .sponsored", ".top-{} + .ad, .top-{} ~ .more"] * 3
+    + ['div[class^="ad-{}"]', 'a[href*="/track/{}?"]', '[id^="div-gpt-ad-{}"]', 'iframe[src$="{}.html" i]'] * 3
+    + [
+        ".card-{}:has(> .ad)",
+        "article.post-{}:has-text(/sponsored|promoted/i)",
+        ".row-{}:has-text(/^Ad {}$/)",
+        ".label-{}:upward(2)",
+        ".item-{}:not(.kept):nth-child(2n+1)",
+        ".feed-{} > div:has(.ad):not(:has(video))",
+    ]
+)
+
+
+# Filters of each operator, by the number of the filter. Most of them select nothing or little of the nested page.
+OPERATORS = {
+    ".class": lambda i: f".c{i}",
+    "#id": lambda i: f"#s{i * 100}",
+    "tag": lambda i: f"x{i}",
+    "[attr^=v]": lambda i: f'[id^="x{i}"]',
+    "[class~=v i]": lambda i: f'[class~="C{i}" i]',
+    ":nth-child(an+b)": lambda i: f"a:nth-child({i + 2}n+2)",
+    ":nth-last-of-type": lambda i: f".row:nth-last-of-type({i + 1})",
+    ":only-child": lambda i: f".c{i}:only-child",
+    ":empty": lambda i: f".c{i}:empty",
+    "a > b": lambda i: f".c{i} > span",
+    "a b": lambda i: f".x{i} a",
+    "a ~ b": lambda i: f".c{i} ~ .none",
+    ":is()": lambda i: f":is(.x{i}, .y{i} a)",
+    ":not()": lambda i: f".c{i}:not(:first-child)",
+    ":has(> a)": lambda i: f"div:has(> .x{i})",
+    ":has(a)": lambda i: f".row:has(.x{i})",
+    ":has-text(literal)": lambda i: f"span:has-text(word{i})",
+    ":has-text(pattern)": lambda i: f"span:has-text(/word{i} [a-z]+/)",
+    ":min-text-length": lambda i: f"span:min-text-length({i + 20})",
+    ":matches-path(pattern)": lambda i: f"span:matches-path(/^.x{i}/)",
+    ":matches-attr(pattern)": lambda i: f"a:matches-attr(id=/^x{i}/)",
+    ":watch-attr": lambda i: f".c{i}:watch-attr(class)",
+    ":upward(n)": lambda i: f".x{i}:upward(2)",
+    ":upward(selector)": lambda i: f".x{i}:upward(.row)",
+}
+
+
 def flat_page(nodes):
     """Rows of an element with a text, all children of the document."""
     for i in range(nodes // 2):
@@ -65,6 +118,12 @@ def filters(count):
     """Half classes and half ids; some of them select something."""
     lines = [f"##.c{i}" for i in range(count // 2)] + [f"###r{i * 1000}" for i in range(count - count // 2)]
     return "\n".join(lines) + "\n"
+
+
+def selectors(count):
+    """Lines of a list, each with a selector of its own."""
+    for i in range(count):
+        yield "##" + SELECTORS[i * 37 % len(SELECTORS)].replace("{}", str(i)) + "\n"
 
 
 def script(lines, nodes):
@@ -91,9 +150,10 @@ def run(program, folder, words):
     return seconds, usage.ru_maxrss * 1024, process.returncode, output.stat().st_size
 
 
-def measure(program, folder, name, words):
-    """Runs the program, prints a line of the table, and answers its seconds; none where the run failed."""
-    size = Path(folder, "page").stat().st_size
+def measure(program, folder, name, words, sized="page"):
+    """Runs the program, prints a line of the table with the size of one file, and answers its seconds; none where the run
+    failed."""
+    size = Path(folder, sized).stat().st_size
     seconds, peak, status, output = run(program, folder, words)
     failure = "" if status == 0 else f"  status {status}"
     print(f"{name:<38}{size:>12,}{seconds:>9.2f}{peak / 1e6:>9.0f}{peak / size:>10.1f}{output:>12,}{failure}")
@@ -163,6 +223,70 @@ def hostile(program, folder):
     return ran
 
 
+def selector_lists(program, folder, count):
+    """A list of selectors, and how many lines are read in a second: the time of a run with an empty list doesn't count."""
+    write(Path(folder, "list"), selectors(count))
+    write(Path(folder, "page"), ["<p>"])
+    without, *_ = run(program, folder, ["apply", "none", "page"])
+    seconds = measure(program, folder, f"{count:,} lines of selectors", ["apply", "list", "page"], "list")
+    if seconds is None:
+        return False
+    print(f"{'':<38}{count / max(seconds - without, 0.001):>21,.0f} lines a second")
+    return True
+
+
+def list_lines():
+    """The class and id lines of a real list, if one is installed."""
+    for file in Path("/usr/share").glob("*/extensions/*/*/assets/thirdparties/easylist/easylist.txt"):
+        lines = file.read_text().split("\n")
+        return [line for line in lines if re.fullmatch(r"##[.#][A-Za-z][A-Za-z0-9_-]*", line)]
+    return [f"##.ad-{i}" if i % 3 else f"###ad_{i}" for i in range(13_000)]
+
+
+def cost(program, folder, name, lines, elements):
+    """A list on the page that stands there: prints what one test of a filter on an element costs."""
+    write(Path(folder, "list"), [line + "\n" for line in lines])
+    without, *_ = run(program, folder, ["apply", "none", "page"])
+    seconds = measure(program, folder, name, ["apply", "list", "page"])
+    if seconds is None:
+        return False
+    print(f"{'':<38}{(seconds - without) / (len(lines) * elements) * 1e9:>21,.0f} ns a test")
+    return True
+
+
+def costs(program, folder):
+    """Real lines on two pages, and 200 filters of each operator on the smaller one."""
+    real = list_lines()
+    ran = True
+    for nodes, lines in ((100_000, real[:2_000]), (10_000, real)):
+        page = "".join(nested_page(nodes))
+        write(Path(folder, "page"), [page])
+        elements = len(re.findall("<[a-z]", page))
+        ran = cost(program, folder, f"{len(lines):,} real lines, {nodes:,} nodes", lines, elements) and ran
+    for name, make in OPERATORS.items():
+        lines = [f"##{make(i)}" for i in range(200)]
+        ran = cost(program, folder, f"200 of `{name}`, 10,000 nodes", lines, elements) and ran
+    return ran
+
+
+def bad_input(program, folder):
+    """Lists and pages that are made to be slow."""
+    write(Path(folder, "page"), ["<p>"])
+    write(Path(folder, "list"), ("##..\n" for _ in range(3_300_000)))
+    ran = [measure(program, folder, "16 MB of malformed lines", ["apply", "list", "page"], "list")]
+    write(Path(folder, "list"), ["##p:has-text(/b+c$/)\n"])
+    write(Path(folder, "page"), ["<p>", *("ab " * 1000 for _ in range(5_500))])
+    ran.append(measure(program, folder, "a text of 16 MB under a pattern", ["apply", "list", "page"]))
+    deepest = ":has(" * 16 + ".b" + ")" * 16
+    write(Path(folder, "list"), [f"##{deepest}\n", "##" + ":not(" * 16 + ".b" + ")" * 16 + "\n"])
+    write(Path(folder, "page"), ["<b class=a>" * 510])
+    ran.append(measure(program, folder, "16 levels on a page 510 deep", ["apply", "list", "page"]))
+    write(Path(folder, "list"), ["##b:nth-last-of-type(3n)\n"])
+    write(Path(folder, "page"), ["<b></b><i></i>" * 10_000])
+    ran.append(measure(program, folder, "20,000 siblings counted from the last", ["apply", "list", "page"]))
+    return all(seconds is not None for seconds in ran)
+
+
 def scripts(program, folder, nodes):
     """A script, and one with four times as many lines."""
     seconds = []
@@ -177,12 +301,13 @@ def main():
     parser = argparse.ArgumentParser(description=__doc__, formatter_class=argparse.RawDescriptionHelpFormatter)
     parser.add_argument("--program", default=str(TOP / "crates/cosmetic_top/out/cosmetic_top"))
     program = str(Path(parser.parse_args().program).resolve())
-    print(f"{'input':<38}{'page bytes':>12}{'seconds':>9}{'peak MB':>9}{'per byte':>10}{'output':>12}")
+    print(f"{'input':<38}{'bytes':>12}{'seconds':>9}{'peak MB':>9}{'per byte':>10}{'output':>12}")
     with tempfile.TemporaryDirectory() as folder:
         Path(folder, "list").write_text(filters(50))
         ran = [pages(program, folder, "flat", flat_page), pages(program, folder, "nested", nested_page)]
         Path(folder, "none").write_text("")
-        ran += [documents(program, folder), hostile(program, folder)]
+        ran += [documents(program, folder), hostile(program, folder), selector_lists(program, folder, 30_000)]
+        ran += [costs(program, folder), bad_input(program, folder)]
         Path(folder, "list").write_text(filters(10))
         write(Path(folder, "page"), flat_page(20_000))
         ran.append(scripts(program, folder, 20_000))
