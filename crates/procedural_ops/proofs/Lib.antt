@@ -7,3 +7,4 @@ pub mod Weights
 pub mod Steps
 pub mod Walking
 pub mod Example
+pub mod Blocked

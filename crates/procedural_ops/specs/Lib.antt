@@ -3,3 +3,4 @@ pub mod Reaching
 pub mod Weight
 pub mod Search
 pub mod Told
+pub mod Blocked

@@ -1,5 +1,7 @@
 //! Steps that go up, and where elements stand to one another.
-ghost use Rattle.std.specs.Prelude.{◌≡◌, ◌≤◌, ◌||◌, ◌&&◌, length, IfSome};
+ghost use Rattle.std.specs.Prelude.{◌≡◌, ◌≤◌, ◌||◌, ◌&&◌, true, length, All, IfSome, IsSomeAnd};
+ghost use Rattle.page_tree.specs.Directions.{is_in};
+ghost use Rattle.procedural_ops.specs.Blocked.{BeginsBelow, TestBelow, HasBelow, LooksBelow};
 ghost use Rattle.page_tree.specs.Standings.{above};
 ghost use Rattle.selector_meaning.specs.Meaning.{ancestor, is_apart, is_beside, is_shown};
 ghost use Rattle.selector_match.specs.Asked.{IsElement};
@@ -7,7 +9,7 @@ ghost use Rattle.procedural_ops.specs.Reaching.{goes_up, first_up_of, is_shown_n
 
 use dom_arena::Dom;
 use selector_match::{in_place, parent};
-use selector_tree::{Place, Step};
+use selector_tree::{Chain, Place, Step, Test};
 
 /// The n-th ancestor of an element, from 1.
 pub(crate) fn ancestor(dom: &Dom, y: u32, n: u8) -> Option<u32>
@@ -101,5 +103,65 @@ fn is_shown_name(name: &str) -> bool
     match name {
         "head" | "link" | "meta" | "script" | "style" | "title" | "html" | "body" => false,
         _ => true,
+    }
+}
+
+/// Whether an element stands below another one, if there is one.
+pub(crate) fn is_under(dom: &Dom, top: Option<u32>, z: u32) -> bool
+    requires { IsElement dom.now z }
+    ensures { result ≡ true → IsSomeAnd top (λ f. is_in (above dom.now z) f ≡ true) }
+{
+    match top {
+        Some(f) => in_place(dom, Place::Descendant, f, z),
+        None => false,
+    }
+}
+
+/// Whether steps are one `:has()` whose chains go down first, to whatever is below. Where it fails for an element, it fails for
+/// all below that.
+pub(crate) fn looks_below(steps: &[Step]) -> bool
+    ensures { result ≡ true → LooksBelow steps.now }
+{
+    match steps.split_first() {
+        Some((first, more)) => more.is_empty() && is_has_below(first),
+        None => false,
+    }
+}
+
+fn is_has_below(step: &Step) -> bool
+    ensures { result ≡ true → HasBelow step.now }
+{
+    match step {
+        Step::Keep(test) => is_test_below(test),
+        _ => false,
+    }
+}
+
+fn is_test_below(test: &Test) -> bool
+    ensures { result ≡ true → TestBelow test.now }
+{
+    match test {
+        Test::Has(selector) => all_begin_below(selector.get().as_slice()),
+        _ => false,
+    }
+}
+
+fn all_begin_below(selector: &[Chain]) -> bool
+    ensures { result ≡ true → All BeginsBelow selector.now }
+{
+    for chain in selector {
+        if !begins_below(chain.as_slice()) {
+            return false;
+        }
+    }
+    true
+}
+
+fn begins_below(chain: &[Step]) -> bool
+    ensures { result ≡ true → BeginsBelow chain.now }
+{
+    match chain {
+        [Step::Move(Place::Descendant), ..] => true,
+        _ => false,
     }
 }

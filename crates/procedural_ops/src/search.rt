@@ -6,10 +6,11 @@ ghost use Rattle.cos_patterns.specs.Found.{pattern_found};
 ghost use Rattle.selector_meaning.specs.Meaning.{holds as holds_for, is_other};
 ghost use Rattle.selector_match.specs.Asked.{IsElement};
 ghost use Rattle.proper_filters.specs.Proper.{is_inner, is_inner_test, are_inner, is_inner_selector, are_own, is_proper};
+ghost use Rattle.procedural_ops.specs.Blocked.{Blocks};
 ghost use Rattle.procedural_ops.specs.Reaching.{reached, leads_from, some_gives, some_leads, is_selected, goes_up, lifted};
 ghost use Rattle.procedural_ops.specs.Search.{some_source, some_target, some_lifted};
 
-use crate::places::{ancestor, first_up, is_apart, is_near_now, is_shown};
+use crate::places::{ancestor, first_up, is_apart, is_near_now, is_shown, is_under, looks_below};
 use crate::walks::{first_target, next_element, next_element_below, next_target};
 use cos_patterns::PatternTable;
 use dom_arena::Dom;
@@ -287,14 +288,44 @@ fn leads_on(
     requires proper { are_inner table.now.patterns steps.now ≡ true }
     ensures { IfOk result (λ answer. answer ≡ some_target dom.now place (leads_from dom.now path.now steps.now) x) }
 {
+    let mut failed = None;
     let mut at = first_target(dom, place, x);
     'targets: while let Some(z) = at {
-        if leads(alloc, dom, path, table, steps, z)? {
+        if leads_unless(alloc, dom, path, table, steps, &mut failed, z)? {
             return Ok(true);
         }
         at = next_target(dom, place, x, z);
     }
     Ok(false)
+}
+
+/// Whether steps lead from an element to something, where they lead to nothing from what is below `failed`. An element from
+/// which they don't takes its place, if the same is so of what is below it: then nested `:has()` ask each element once.
+#[cycle(pull)]
+fn leads_unless(
+    alloc: Global,
+    dom: &Dom,
+    path: &str,
+    table: &PatternTable,
+    steps: &[Step],
+    failed: &mut Option<u32>,
+    z: u32,
+) -> Result<bool, AllocError>
+    requires element { IsElement dom.now z }
+    requires proper { are_inner table.now.patterns steps.now ≡ true }
+    requires failed { IfSome failed.old (Blocks dom.now path.now steps.now) }
+    ensures answer { IfOk result (λ answer. answer ≡ leads_from dom.now path.now steps.now z) }
+    ensures failed { IfSome failed.new (Blocks dom.now path.now steps.now) }
+{
+    dom.is_tree();
+    if is_under(dom, *failed, z) {
+        return Ok(false);
+    }
+    let leads = leads(alloc, dom, path, table, steps, z)?;
+    if !leads && looks_below(steps) {
+        *failed = Some(z);
+    }
+    Ok(leads)
 }
 
 /// The element to which a step that goes up leads.

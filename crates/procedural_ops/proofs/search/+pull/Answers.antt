@@ -11,6 +11,7 @@ use Rattle.proper_filters.specs.Proper.{are_inner}
 use Rattle.procedural_ops.specs.Weight.{chain_weight}
 use Rattle.procedural_ops.specs.Walks.{elements_behind, order}
 use Rattle.procedural_ops.proofs.Walking.{from_one}
+use Rattle.procedural_ops.proofs.Blocked as blocks
 use Rattle.procedural_ops.proofs.Steps as steps
 use Rattle.procedural_ops.proofs.Walking as walking
 use Rattle.procedural_ops.proofs.Weights as weights
@@ -316,3 +317,9 @@ lift-nearest-requires t c =
 pub nearest-is_selected-requires : goal.nearest-is_selected-requires
 nearest-is_selected-requires t c =
     (omega arith, (c.in-Some.ensures.element, weights.proper_inner c.args.table.now.patterns c.args.selector.now c.requires.1.1.1))
+
+-- it leads to nothing from what is below z either
+pub leads_unless-returns-then-looks_below-clause-failed : goal.leads_unless-returns-then-looks_below-clause-failed
+leads_unless-returns-then-looks_below-clause-failed t c =
+    blocks.blocked c.args.dom.now c.is_tree.ensures c.args.path.now c.args.table.now.patterns c.args.steps.now c.requires.1.1.1.0 (c.looks_below.ensures c.if-looks_below.true)
+    c.args.z c.requires.1.1.0 (sym c.in_ok-leads.ensures ∙ c.if-not-leads.true)

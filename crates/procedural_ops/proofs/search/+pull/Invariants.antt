@@ -1,9 +1,10 @@
-use Rattle.std.proofs.Common.{◌≡◌, ◌+◌, ◌*◌, ◌&&◌, ◌||◌, not, true, false, ℕ, Some, take, find, length}
+use Rattle.std.proofs.Common.{◌≡◌, ◌+◌, ◌*◌, ◌&&◌, ◌||◌, not, true, false, ℕ, Some, IfSome, take, find, length}
 use Rattle.std.specs.List.{list_any}
 use Rattle.page_tree.specs.Standings.{all, above}
 use Rattle.page_tree.specs.Directions.{is_in}
 use Rattle.selector_meaning.specs.Meaning.{is_apart, is_beside, option_is}
 use Rattle.selector_match.specs.Asked.{IsElement, below, sources}
+use Rattle.procedural_ops.specs.Blocked.{Blocks}
 use Rattle.procedural_ops.specs.Reaching.{reached, leads_from, chain_gives, is_selected, lifted}
 use Rattle.procedural_ops.specs.Search.{some_source, some_lifted, some_target}
 use Rattle.procedural_ops.specs.Walks.{elements_behind, order, targets_behind, among}
@@ -58,6 +59,7 @@ invariant-leads_on-targets l = record {
   same : some_target l.dom l.place (leads_from l.dom l.path l.steps) l.x ≡ list_any (leads_from l.dom l.path l.steps) (from_one (targets_behind l.dom l.place l.x) l.at);
   element : (m : ℕ) → l.at ≡ Some m → IsElement l.dom m;
   there : (m : ℕ) → l.at ≡ Some m → is_in (among l.dom l.place l.x) m ≡ true;
+  failed : IfSome l.failed (Blocks l.dom l.path l.steps);
 }
 
 abbrev pub decreases-leads_on-targets : goal.decreases-leads_on-targets
@@ -100,7 +102,10 @@ abbrev pub decreases-leads : goal.decreases-leads
 decreases-leads l = 8 * chain_weight l.steps.now + 3
 
 abbrev pub decreases-leads_on : goal.decreases-leads_on
-decreases-leads_on l = 8 * chain_weight l.steps.now + 4
+decreases-leads_on l = 8 * chain_weight l.steps.now + 5
+
+abbrev pub decreases-leads_unless : goal.decreases-leads_unless
+decreases-leads_unless l = 8 * chain_weight l.steps.now + 4
 
 abbrev pub decreases-lift : goal.decreases-lift
 decreases-lift l = 8 * step_weight l.step.now

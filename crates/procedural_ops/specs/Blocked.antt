@@ -1,0 +1,33 @@
+-- Where steps lead to nothing from an element, and so to nothing from what is below it.
+use Rattle.std.specs.Prelude.{◌≡◌, ℕ, true, false, List, [], ◌∷◌, All}
+use Rattle.page_tree.specs.Forest.{Tree}
+use Rattle.page_tree.specs.Standings.{above}
+use Rattle.page_tree.specs.Directions.{is_in}
+use Rattle.selector_tree.specs.declared.selector.Place.TheVariants.{Descendant}
+use Rattle.selector_tree.specs.declared.selector.Step.{Step}
+use Rattle.selector_tree.specs.declared.selector.Step.TheVariants as step
+use Rattle.selector_tree.specs.declared.selector.Test.{Test}
+use Rattle.selector_tree.specs.declared.selector.Test.TheVariants as test
+use Rattle.selector_meaning.specs.Texts.{Bytes}
+use Rattle.selector_match.specs.Asked.{IsElement}
+use Rattle.procedural_ops.specs.Reaching.{leads_from}
+
+-- the steps lead to nothing from the elements below f
+abbrev pub Blocks : Tree → Bytes → List Step → ℕ → Type 0
+Blocks t path steps f = (w : ℕ) → IsElement t w → is_in (above t w) f ≡ true → leads_from t path steps w ≡ false
+
+-- a chain goes down first, to whatever is below
+abbrev pub BeginsBelow : List Step → Type 0
+BeginsBelow chain = (more : List Step) × (chain ≡ step.Move Descendant ∷ more)
+
+-- a `:has()` whose chains go down first
+abbrev pub TestBelow : Test → Type 0
+TestBelow q = (l : List (List Step)) × (q ≡ test.Has l) × All BeginsBelow l
+
+-- a step that keeps by such a `:has()`
+abbrev pub HasBelow : Step → Type 0
+HasBelow s = (q : Test) × (s ≡ step.Keep q) × TestBelow q
+
+-- the steps are that one step
+abbrev pub LooksBelow : List Step → Type 0
+LooksBelow steps = (s : Step) × (steps ≡ s ∷ []) × HasBelow s
