@@ -15,8 +15,8 @@ It makes its own input in a temporary folder.
 - The class and id lines of a real list, where Debian's webext-ublock-origin-firefox is installed, else lines made in that shape,
   on a nested page: what one test costs.
 - 200 filters of each operator on a nested page: what one test costs, by operator.
-- Lists and pages of bad input: each run has to end with status 0. Nested `:has()` with descendants, and chains of descendants that
-  all fit, aren't among them yet: their cost grows with the depth of the page to the power of how many there are.
+- Lists and pages of bad input: each run has to end with status 0. Chains of descendants that all fit aren't among them yet, nor
+  nested `:has()` with other tests beside it: their cost grows with the depth of the page to the power of how many there are.
 - A script of changes has every element asked again after each line: its time should grow as the number of its lines does,
   and its peak memory should not."""
 
@@ -280,7 +280,7 @@ def bad_input(program, folder):
     write(Path(folder, "list"), ["##p:has-text(/b+c$/)\n"])
     write(Path(folder, "page"), ["<p>", *("ab " * 1000 for _ in range(5_500))])
     ran.append(measure(program, folder, "a text of 16 MB under a pattern", ["apply", "list", "page"]))
-    write(Path(folder, "list"), [f"##{name * 16}.b{')' * 16}\n" for name in (":is(", ":not(", ":has(> ")])
+    write(Path(folder, "list"), [f"##{name * 16}.b{')' * 16}\n" for name in (":is(", ":not(", ":has(> ", ":has(")])
     write(Path(folder, "page"), ["<b class=a>" * 510])
     ran.append(measure(program, folder, "16 levels on a page 510 deep", ["apply", "list", "page"]))
     write(Path(folder, "list"), ["##b:nth-last-of-type(3n)\n"])
