@@ -4,6 +4,7 @@ pub mod Totals
 pub mod Depths
 pub mod Cuts
 pub mod Keeps
+pub mod Fragments
 pub mod Elements
 pub mod Around
 pub mod Parts
