@@ -11,5 +11,6 @@ pub mod Parts
 pub mod Below
 pub mod Regrafts
 pub mod Behind
+pub mod Found
 pub mod Walk
 pub mod Sides
