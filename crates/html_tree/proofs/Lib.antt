@@ -9,3 +9,4 @@ pub mod Resolving
 pub mod Kept
 pub mod PassedLimits
 pub mod Depths
+pub mod Sums

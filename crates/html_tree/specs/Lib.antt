@@ -1,5 +1,6 @@
 pub mod Rising
 pub mod Chain
+pub mod Sums
 pub mod Numerals
 pub mod LaterNames
 pub mod Limits

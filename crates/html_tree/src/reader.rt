@@ -9,12 +9,12 @@ ghost use Rattle.html_meaning.specs.References.{resolved};
 ghost use Rattle.page_tree.specs.Forest.{text};
 ghost use Rattle.html_tokens.specs.Seen.{token_of};
 ghost use Rattle.html_tokens.specs.declared.tokens.Token.TheVariants.{Start};
-ghost use Rattle.html_tree.specs.Chain.{names_of, element_names, Leaves};
+ghost use Rattle.html_tree.specs.Chain.{element_names, Leaves};
 ghost use Rattle.html_tree.specs.Limits.{page_error, next_limit, FailsWith};
 ghost use Rattle.html_tree.specs.declared.reader.PageError.TheVariants.{NoMemory};
 
 use crate::attributes::attrs_of;
-use crate::chain::{left_by_end, left_by_start};
+use crate::chain::OpenNames;
 use crate::references::resolve;
 use crate::tables::has_content;
 use dom_arena::{Dom, Fragment, NewNode};
@@ -46,13 +46,13 @@ impl From<AllocError> for PageError {
 }
 
 /// How many of the open elements a token leaves.
-fn left_by(chain: &[&str], token: Token) -> usize
+fn left_by(chain: &OpenNames, token: Token) -> usize
     ensures within { result ≤ length chain.now }
-    ensures left { Leaves (role_of (token_of token.entry).piece) (names_of chain.now) result }
+    ensures left { Leaves (role_of (token_of token.entry).piece) chain.now result }
 {
     match token {
-        Token::Start(tag) => left_by_start(chain, tag.name),
-        Token::End { name, span: _ } => left_by_end(chain, name),
+        Token::Start(tag) => chain.left_by_start(tag.name),
+        Token::End { name, span: _ } => chain.left_by_end(name),
         Token::Chars {
             text: _,
             raw: _,
@@ -80,8 +80,8 @@ fn opened<'a>(token: Token<'a>) -> Option<&'a str>
 }
 
 /// Puts the element that a token opens behind the open ones, if it opens one.
-fn open_element<'a>(chain: &mut Vec<&'a str>, token: Token<'a>) -> Result<(), AllocError>
-    ensures { OnOk result ((n : ℕ) → names_of chain.new.items ≡ names_of chain.old.items ++ element_names (opened n (role_of (token_of token.entry).piece))) }
+fn open_element<'a>(chain: &mut OpenNames<'a>, token: Token<'a>) -> Result<(), AllocError>
+    ensures { OnOk result ((n : ℕ) → chain.new ≡ chain.old ++ element_names (opened n (role_of (token_of token.entry).piece))) }
 {
     if let Some(name) = opened(token) {
         chain.push(name)?;
@@ -182,7 +182,7 @@ pub fn read_fragment(
     ensures few { IfOk result (λ part. length part ≤ length source.now) }
 {
     let mut tokens = Tokens::new(source);
-    let mut chain: Vec<&str> = Vec::new(alloc);
+    let mut chain = OpenNames::new(alloc);
     let mut part = Fragment::new(alloc);
     while let Some(token) = tokens.next() {
         let left = left_by(&chain, token);
