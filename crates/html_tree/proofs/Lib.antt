@@ -10,3 +10,6 @@ pub mod Kept
 pub mod PassedLimits
 pub mod Depths
 pub mod Sums
+pub mod Growing
+pub mod Grown
+pub mod Comparing

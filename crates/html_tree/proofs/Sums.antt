@@ -17,7 +17,7 @@ sum_next [] i sum h = absurd (omega (arith, h))
 sum_next (b ∷ name) zero sum h = refl
 sum_next (b ∷ name) (suc i) sum h = sum_next name i sum (omega (arith, h))
 
-lower-long : (name : List ℕ) → length (str_to_ascii_lowercase name) ≡ length name
+pub lower-long : (name : List ℕ) → length (str_to_ascii_lowercase name) ≡ length name
 lower-long [] = refl
 lower-long (b ∷ name) = ap suc (lower-long name)
 
@@ -92,9 +92,11 @@ pub counted_pop : (counts : List ℕ) (names : List (List ℕ)) (name : List ℕ
     → AreCounted (slice_set counts s (slice_index counts s - 1)) names × (1 ≤ slice_index counts s)
 counted_pop counts names name s c e h =
     let one = with_sum-same s names name e in
-    let at = c.each s h in
-    (counted_set counts (names ++ name ∷ []) names s (slice_index counts s - 1) c h (omega (arith, at, one))
-    (λ sum other. sym (with_sum-other sum names name (λ t. other (t ∙ sym e)))), omega (arith, at, one))
+    let at = c.each s h in (
+      counted_set counts (names ++ name ∷ []) names s (slice_index counts s - 1) c h (omega (arith, at, one))
+          (λ sum other. sym (with_sum-other sum names name (λ t. other (t ∙ sym e)))),
+      omega (arith, at, one),
+    )
 
 -- no names
 pub counted_none : AreCounted (replicate SUMS 0) []

@@ -1,7 +1,7 @@
 use Rattle.std.proofs.Common.{◌≡◌, ◌≤◌, ◌+◌, ℕ, List, [], ◌∷◌, ◌++◌, Option, Some, None, length, take, refl, arith, ap, sym, ◌∙◌, subst, option_map, MatchOption, IsOkUnless}
 use Rattle.std.proofs.lemmas.List.{length-map}
-use Rattle.page_tree.specs.Forest.{Content}
-use Rattle.page_tree.specs.Fragments.{IsFragment, Limit, limit_passed}
+use Rattle.page_tree.specs.Forest.{Content, empty}
+use Rattle.page_tree.specs.Fragments.{IsFragment, Limit, limit_passed, with_fragment}
 use Rattle.dom_arena.specs.Contents.{new_content, new_nodes}
 use Rattle.html_meaning.specs.Tokens.{Token}
 use Rattle.html_meaning.specs.Page.{role_of, opened, content_of, fragment}
@@ -14,6 +14,7 @@ use Rattle.html_tree.proofs.Kept.{Kept, kept_start, kept_node, kept_next, kept_n
 use Rattle.html_tree.proofs.PassedLimits.{push_done, push_failed, pushed_within, pushed_passes, fails, failed_so, error_given}
 use Rattle.html_meaning.proofs.Counts.{fragment_few}
 use Rattle.html_tree.proofs.Depths.{fragment_is}
+use Rattle.html_tree.proofs.Law.{page_is_fragment}
 use Rattle.html_tree.proofs.reader.read_fragment.Goals as goal
 
 pub loop-token-init : goal.loop-token-init
@@ -99,3 +100,12 @@ returns-clause-few c =
     let whole : out ≡ all = kept_all names out all (subst (λ ts. Kept names ts out all) none c.loop-token.invariant.kept) in
     let long : length out ≡ length c.loop-token.part = length-map c.loop-token.part _ in
     omega (arith, long, ap length whole, fragment_few c.args.source.now)
+
+pub returns-clause-page : goal.returns-clause-page
+returns-clause-page c =
+    let names = c.loop-token.chain in
+    let out = new_nodes c.loop-token.part in
+    let all = fragment c.args.source.now in
+    let none : c.loop-token.tokens ≡ [] = c.in_default.ensures.0 in
+    let whole : out ≡ all = kept_all names out all (subst (λ ts. Kept names ts out all) none c.loop-token.invariant.kept) in
+    ap (λ part. with_fragment 0 0 part (record { nodes = empty; next = 1 })) whole ∙ sym (page_is_fragment c.args.source.now)
