@@ -44,7 +44,7 @@ behind-skip k (node n c kids later) xs z =
     ]
 
 -- a node that was found is not looked for further on
-find-counted : (k : ℕ) (f g : Forest) → 0 < count k f → or_else (find k f) g ≡ find k f
+pub find-counted : (k : ℕ) (f g : Forest) → 0 < count k f → or_else (find k f) g ≡ find k f
 find-counted k empty g h = absurd (omega arith)
 find-counted k (node n c kids later) g h =
     elim (same_cases k n) [
