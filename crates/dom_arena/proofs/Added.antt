@@ -1,7 +1,7 @@
 -- The slots with a new node linked in stand for the tree with that node.
-use Rattle.std.proofs.Common.{◌≡◌, ℕ, zero, suc, ◌+◌, ◌<◌, ◌≤◌, List, ◌++◌, Some, None, true, length, refl, sym, ◌∙◌, ap, subst, inl, inr, arith}
+use Rattle.std.proofs.Common.{◌≡◌, ℕ, zero, suc, ◌+◌, ◌<◌, ◌≤◌, List, [], ◌∷◌, ◌++◌, Option, Some, None, true, length, refl, sym, ◌∙◌, ap, subst, inl, inr, arith}
 use Rattle.std.proofs.Math.ListN.{replicate}
-use Rattle.std.proofs.lemmas.Bool.{cases_lt, le-ltb, lt-ltb}
+use Rattle.std.proofs.lemmas.Bool.{cases_lt}
 use Rattle.page_tree.specs.Forest.{Content, Forest, empty, node, Tree, rooted, same, count, size, depth_in, head, tops, find, children}
 use Rattle.page_tree.specs.Edits.{insert_at, with_children, added}
 use Rattle.page_tree.specs.Trees.{MayHave, IsOrdinary}
@@ -9,9 +9,10 @@ use Rattle.dom_arena.specs.declared.table.Slot.{Slot}
 use Rattle.dom_arena.specs.Contents.{may_hold}
 use Rattle.dom_arena.specs.Slots.{free, slot_at, IsUsed, last_behind, cell, put}
 use Rattle.dom_arena.specs.Linked.{Stands, IsArena, tree_of, forest_of, from_place, before_place}
-use Rattle.dom_arena.specs.Refusals.{limits_refused}
+use Rattle.page_tree.specs.Refusals.{limits_refused}
 use Rattle.dom_arena.proofs.Links.{same_cases, forest_of-linked, stands_used}
 use Rattle.dom_arena.proofs.Depths.{depth_known}
+use Rattle.dom_arena.proofs.Limits.{limits_allow}
 use Rattle.dom_arena.proofs.Placed.{StandsBeside, Stands-placed_by, total as all_counted, size_nodes as all_sized}
 use Rattle.dom_arena.proofs.Writes.{length-placed, slot_at-free, length-free, Stands-free}
 
@@ -65,22 +66,11 @@ module _ (slots : List Slot) (f : Forest) (stands : Stands slots f) (n : ℕ) (n
   Stands-put b a eb ea =
       Stands-placed_by slots f n empty alone p i c (stands_used slots f stands p used) holds childless ordinary le e deep (omega arith) (omega arith) b a (cell p empty a b c) eb ea refl
 
--- what the limits allow
-limits_allow : (depth nodes : ℕ) → limits_refused (Some depth) nodes ≡ None → (depth < 512) × (nodes < 1000000)
-limits_allow depth nodes h =
-    elim (cases_lt depth 512) [
-      | inr le ↦ let e = rw (le-ltb depth 512 le) at h in cc
-      | inl lt ↦ elim (cases_lt nodes 1000000) [
-        | inl lt' ↦ (lt, lt')
-        | inr le ↦ let e = rw (lt-ltb depth 512 lt, le-ltb nodes 1000000 le) at h in cc
-      ]
-    ]
-
 -- all of it, from what a body says of its writes
 pub added_arena : (slots : List Slot) (nodes p i b a : ℕ) (c : Content) (made : List Slot) → IsArena slots nodes
     → IsUsed slots p → may_hold (slot_at slots p).payload ≡ true → MayHave c empty → IsOrdinary c
     → i ≤ length (tops (children (find p (rooted (tree_of slots).nodes))))
-    → limits_refused (depth_in p 0 (rooted (tree_of slots).nodes)) nodes ≡ None
+    → ((d : Content) → limits_refused (depth_in p 0 (rooted (tree_of slots).nodes)) nodes ((0, d) ∷ []) ≡ None)
     → b ≡ before_place 0 i (children (find p (rooted (tree_of slots).nodes))) → a ≡ head (from_place i (children (find p (rooted (tree_of slots).nodes))))
     → made ≡ put (length slots) p b a c (slots ++ replicate 1 free)
     → IsArena made (nodes + 1) × (tree_of made ≡ added p i (node (length slots) c empty empty) (tree_of slots))
@@ -97,7 +87,7 @@ added_arena slots nodes p i b a c made arena used holds childless ordinary le al
     let used' : IsUsed more p = λ e. used (ap (λ (x : Slot). x.payload) (sym same_p) ∙ e) in
     let holds' : may_hold (slot_at more p).payload ≡ true = ap (λ (x : Slot). may_hold x.payload) same_p ∙ holds in
     let known : (e : ℕ) × (depth_in p 0 (rooted f) ≡ Some e) = depth_known more f stands p used' in
-    let limits : (known.0 < 512) × (nodes < 1000000) = limits_allow known.0 nodes (rw known.1 at allowed) in
+    let limits : (known.0 < 512) × (nodes < 1000000) = limits_allow known.0 nodes c (ap (λ (o : Option ℕ). limits_refused o nodes ((0, c) ∷ [])) (sym known.1) ∙ allowed c) in
     let few : size f < 1000000 = omega (arith, arena.counted, limits.1) in
     let nodes' : Forest = new_nodes more f stands n n_in unused room p i c used' holds' childless ordinary le known.0 known.1 limits.0 few in
     let grown : size nodes' ≡ size f + 1 = size_nodes more f stands n n_in unused room p i c used' holds' childless ordinary le known.0 known.1 limits.0 few in

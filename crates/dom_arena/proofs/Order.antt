@@ -3,11 +3,14 @@ use Rattle.std.proofs.Common.{◌≡◌, ℕ, ◌<◌, ◌≤◌, cond, eqb, Lis
 use Rattle.std.proofs.lemmas.Bool.{cases_eq, eq-eqb, ne_eqb}
 use Rattle.std.proofs.lemmas.List.{append-nil}
 use Rattle.page_tree.specs.Forest.{Content, document, Forest, empty, node, rooted, count, numbers, head, first, or_else, find, children, or_some, first_in, behind}
+use Rattle.page_tree.specs.Edits.{with_children, behind_subtree}
 use Rattle.dom_arena.specs.declared.table.Slot.{Slot}
 use Rattle.dom_arena.specs.Slots.{slot_at, IsUsed, number_of}
 use Rattle.dom_arena.specs.Linked.{Linked, Stands}
 use Rattle.dom_arena.proofs.Links.{same_cases, find-none, stands_used, first_child_found}
 use Rattle.dom_arena.proofs.Siblings.{same-eq}
+use Rattle.dom_arena.proofs.Grafts.{with_children-none}
+use Rattle.dom_arena.proofs.Regrafts.{children-given}
 use Rattle.dom_arena.proofs.Family.{counted_used}
 
 -- the number behind a node and all below it in document order, where `rest` follows the forest
@@ -127,6 +130,48 @@ beyond-up s k (node n c kids later) p b rest l z once h end =
     above_kids : (j : ℕ) → 0 < count j kids → beyond j (node n c kids later) rest ≡ beyond j kids (or_some (first later) rest)
     above_kids j h' = beyond-kids j n c kids later rest (λ e. omega (arith, same-eq j n e, once j)) h'
 
+-- ---- a node without its children
+
+-- new children of k
+given_other : (k n : ℕ) (c : Content) (kids later g : Forest) → (k ≡ n → ⊥) → with_children k g (node n c kids later) ≡ node n c (with_children k g kids) (with_children k g later)
+given_other k n c kids later g ne = rw (ne_eqb k n ne) refl
+
+-- it is still there
+count-given : (k : ℕ) (g f : Forest) → 0 < count k f → 0 < count k (with_children k g f)
+count-given k g empty h = absurd (omega arith)
+count-given k g (node n c kids later) h =
+    elim (same_cases k n) [
+      | inl q ↦ omega arith
+      | inr q ↦ rw (given_other k n c kids later g q.0) (elim (cases_eq (count k kids) 0) [
+        | inl z ↦ omega (arith, count-given k g later (omega arith))
+        | inr z ↦ omega (arith, count-given k g kids (omega arith))
+      ])
+    ]
+
+first-given : (k : ℕ) (g f : Forest) → first (with_children k g f) ≡ first f
+first-given k g empty = refl
+first-given k g (node n c kids later) = refl
+
+-- the same stands beyond it
+beyond-given : (k : ℕ) (g f : Forest) (rest : Option ℕ) → beyond k (with_children k g f) rest ≡ beyond k f rest
+beyond-given k g empty rest = refl
+beyond-given k g (node n c kids later) rest =
+    elim (same_cases k n) [
+      | inl q ↦
+          beyond-same k n c (cond (eqb k n) g (with_children k g kids)) (with_children k g later) rest q.0 ∙ ap (λ (o : Option ℕ). or_some o rest) (first-given k g later)
+          ∙ sym (beyond-same k n c kids later rest q.0)
+      | inr q ↦ ap (λ (x : Forest). beyond k x rest) (given_other k n c kids later g q.0) ∙ (elim (cases_eq (count k kids) 0) [
+        | inl z ↦
+            beyond-later k n c (with_children k g kids) (with_children k g later) rest q.0 (ap (count k) (with_children-none k g kids z) ∙ z)
+            ∙ beyond-given k g later rest ∙ sym (beyond-later k n c kids later rest q.0 z)
+        | inr z ↦
+            beyond-kids k n c (with_children k g kids) (with_children k g later) rest q.0 (count-given k g kids (omega arith))
+            ∙ beyond-given k g kids (or_some (first (with_children k g later)) rest)
+            ∙ ap (λ (o : Option ℕ). beyond k kids (or_some o rest)) (first-given k g later)
+            ∙ sym (beyond-kids k n c kids later rest q.0 (omega arith))
+      ])
+    ]
+
 module _ (slots : List Slot) (f : Forest) (stands : Stands slots f) where
   -- nothing is beyond the document
   none_beyond : beyond 0 (rooted f) None ≡ None
@@ -172,6 +217,15 @@ module _ (slots : List Slot) (f : Forest) (stands : Stands slots f) where
   behind_leaf k used z =
       behind_node k used ∙ ap (λ b. or_some (cond b None (Some (slot_at slots k).first_child)) (beyond k (rooted f) None)) (eq-eqb (slot_at slots k).first_child 0 z)
 
+  -- behind a node and all below it is what is beyond it
+  pub behind_whole : (k : ℕ) → IsUsed slots k → behind_subtree k (rooted f) ≡ beyond k (rooted f) None
+  behind_whole k used =
+      let counted : count k (rooted f) ≡ 1 = omega (arith, stands_used slots f stands k used, stands.tree.once k) in
+      ap (behind k) (sym (append-nil (numbers (with_children k empty (rooted f)))))
+      ∙ behind-numbers k (with_children k empty (rooted f)) [] (count-given k empty (rooted f) (omega arith))
+      ∙ ap (λ (g : Forest). or_some (first g) (beyond k (with_children k empty (rooted f)) None)) (children-given k empty (rooted f) counted)
+      ∙ beyond-given k empty (rooted f) None
+
   -- the way up ends at the document
   pub behind_end : (k : ℕ) → k ≡ 0 → beyond k (rooted f) None ≡ None
   behind_end k z = ap (λ (j : ℕ). beyond j (rooted f) None) z ∙ none_beyond
@@ -179,3 +233,6 @@ module _ (slots : List Slot) (f : Forest) (stands : Stands slots f) where
 -- nothing is behind what is no node
 pub behind-none : (f : Forest) (k : ℕ) → count k (rooted f) ≡ 0 → behind k (numbers (rooted f)) ≡ None
 behind-none f k z = ap (behind k) (sym (append-nil (numbers (rooted f)))) ∙ behind-skip k (rooted f) [] z
+
+pub behind_whole-none : (f : Forest) (k : ℕ) → count k (rooted f) ≡ 0 → behind_subtree k (rooted f) ≡ None
+behind_whole-none f k z = ap (λ (g : Forest). behind k (numbers g)) (with_children-none k empty (rooted f) z) ∙ behind-none f k z

@@ -22,7 +22,7 @@ height-size empty = omega arith
 height-size (node n c kids later) = omega (arith, height-size kids, height-size later)
 
 -- a free slot in place of another
-free_at : (slots : List Slot) (n : ℕ) → slot_at (cleared n slots) n ≡ free
+pub free_at : (slots : List Slot) (n : ℕ) → slot_at (cleared n slots) n ≡ free
 free_at slots n =
     elim (cases_lt n (length slots)) [
       | inl lt ↦ slot_at-set_same slots n free lt
@@ -31,9 +31,9 @@ free_at slots n =
 
 -- what is below the first of the siblings, and those behind it
 pub record IsOpened (slots : List Slot) (part : Forest) (at below next : ℕ) : Type 0 where
-  pub below : HoldPart slots (part_from slots below) below
+  pub held_below : HoldPart slots (part_from slots below) below
   pub fewer_below : size (part_from slots below) < size part
-  pub behind : HoldPart slots (part_from slots next) next
+  pub held_behind : HoldPart slots (part_from slots next) next
   pub fewer : size (part_from slots next) < size part
   pub high : max (1 + height (part_from slots below)) (height (part_from slots next)) ≡ height part
   pub counted : (k : ℕ) → same k at + (count k (part_from slots below) + count k (part_from slots next)) ≡ count k part
@@ -69,9 +69,9 @@ opened slots (node n c kids later) at below next h ne eb en =
     } in
     let same_at : (k : ℕ) → same k at ≡ same k n = λ k. ap (same k) (sym h.headed) in
     record {
-      below = subst (λ (g : Forest). HoldPart slots g below) (sym pb) of_below;
+      held_below = subst (λ (g : Forest). HoldPart slots g below) (sym pb) of_below;
       fewer_below = subst (λ (g : Forest). size g < size (node n c kids later)) (sym pb) (omega arith);
-      behind = subst (λ (g : Forest). HoldPart slots g next) (sym pn) of_behind;
+      held_behind = subst (λ (g : Forest). HoldPart slots g next) (sym pn) of_behind;
       fewer = subst (λ (g : Forest). size g < size (node n c kids later)) (sym pn) (omega arith);
       high = omega (arith, ap height pb, ap height pn);
       counted = λ k. omega (arith, ap (count k) pb, ap (count k) pn, same_at k);
@@ -142,7 +142,7 @@ cleared_step part old now mid at below next gone more h ne eb en under em =
     let long : length (cleared at mid) ≡ length now = length-set mid at free ∙ under.long in
     let apart : (k : ℕ) → 0 < count k (part_from now next) → (k ≡ at → ⊥) × (count k (part_from now below) ≡ 0) =
     λ k i. (λ e. omega (arith, o.counted k, h.rest.once k, same-eq k at e), omega (arith, o.counted k, h.rest.once k)) in
-    let rest = part-frame now (cleared at mid) (part_from now next) next o.behind (λ k i. other k (apart k i).0 ∙ under.kept k (apart k i).1) long in
+    let rest = part-frame now (cleared at mid) (part_from now next) next o.held_behind (λ k i. other k (apart k i).0 ∙ under.kept k (apart k i).1) long in
     let within : (k : ℕ) → same k at + (count k (part_from now below) + count k (part_from now next)) ≤ count k part = λ k. omega (arith, o.counted k, h.inside k) in
     record {
       rest = subst (λ (g : Forest). HoldPart (cleared at mid) g next) (sym rest.1) rest.0;
@@ -164,7 +164,7 @@ cleared_step part old now mid at below next gone more h ne eb en under em =
     none_left k nk b z =
         let o : IsOpened now (part_from now at) at below next = opened now (part_from now at) at below next h.rest ne eb en in
         let long : length (cleared at mid) ≡ length now = length-set mid at free ∙ under.long in
-        let rest = part-frame now (cleared at mid) (part_from now next) next o.behind
+        let rest = part-frame now (cleared at mid) (part_from now next) next o.held_behind
         (λ j i. slot_at-set_other mid at j free (λ e. omega (arith, o.counted j, h.rest.once j, same-eq j at e)) ∙ under.kept j (omega (arith, o.counted j, h.rest.once j))) long in
         elim (same_cases k at) [
           | inl q ↦ absurd (nk q.0)

@@ -14,7 +14,7 @@ use Rattle.dom_arena.proofs.Grafts.{count-with_children, count-insert, size-with
 use Rattle.dom_arena.proofs.Family.{Family, family_of}
 use Rattle.dom_arena.proofs.Refused.{holder}
 use Rattle.dom_arena.proofs.Heights.{heights, height-insert}
-use Rattle.dom_arena.proofs.Ordinary.{AreOrdinary-insert, ordinary_new, ordinary_below}
+use Rattle.dom_arena.proofs.Ordinary.{AreOrdinary-insert, ordinary_new, ordinary_below, grown_below}
 use Rattle.dom_arena.proofs.Writes.{kept, at_new, at_parent, at_before, at_after, length-placed}
 
 -- the slots stand for a forest, and beside it they hold what is below a node n that is not in the forest. The slot of n
@@ -202,23 +202,8 @@ module _ (slots : List Slot) (f : Forest) (n : ℕ) (under : Forest) (stands : S
   grown =
       IsGrown-with_children (slot_at slots) p grown_kids (rooted f) 0 0 stands.linked
       (λ d e. holder d grown_kids (ap may_hold e ∙ holds))
-      (IsGrown-insert i (node n c under empty) kids (may, stands.grown, tt) (grown_below (find p (rooted f)) (IsGrown-find p (rooted f) (tt, stands.tree.grown, tt))))
+      (IsGrown-insert i (node n c under empty) kids (may, stands.grown, tt) (grown_below p f stands.tree.grown))
       (tt, stands.tree.grown, tt)
-    where
-      grown_below : (g : Forest) → IsGrown g → IsGrown (children g)
-      grown_below empty h = tt
-      grown_below (node n d ks ls) h = h.1
-
-      or_grown : (g h : Forest) → IsGrown g → IsGrown h → IsGrown (or_else g h)
-      or_grown empty h a b = b
-      or_grown (node n d ks ls) h a b = a
-
-      IsGrown-find : (k : ℕ) (g : Forest) → IsGrown g → IsGrown (find k g)
-      IsGrown-find k empty h = tt
-      IsGrown-find k (node n d ks ls) h = elim (same_cases k n) [
-        | inl q ↦ rw q.2 h
-        | inr q ↦ rw q.2 (or_grown (find k ks) (find k ls) (IsGrown-find k ks h.1) (IsGrown-find k ls h.2))
-      ]
 
   ordinary_nodes : AreOrdinary new_nodes
   ordinary_nodes =

@@ -4,7 +4,8 @@ use Rattle.std.proofs.lemmas.Bool.{cases_eq}
 use Rattle.page_tree.specs.Forest.{Content, document, element, text, comment, Forest, empty, node, same, count, size, height, find, or_else, children, depth_in}
 use Rattle.page_tree.specs.Edits.{without, with_children}
 use Rattle.page_tree.specs.Trees.{MayHave, IsGrown, AreOrdinary}
-use Rattle.dom_arena.proofs.Links.{same_cases, find-none}
+use Rattle.dom_arena.proofs.Heights.{depth_in-none}
+use Rattle.dom_arena.proofs.Links.{same_cases, find-none, count-find, count-parts}
 use Rattle.dom_arena.proofs.Order.{find-counted}
 
 -- without what is no node nothing changes
@@ -26,6 +27,15 @@ count-without j k (node n c kids later) h =
         | inl z ↦ rw (q.2, find-none k kids z, without-none k kids z) (omega (arith, count-without j k later (omega arith)))
         | inr z ↦ rw (q.2, find-counted k kids (find k later) (omega arith), without-none k later (omega arith)) (omega (arith, count-without j k kids (omega arith)))
       ]
+    ]
+
+-- so no number stands more often
+pub count-without_le : (j k : ℕ) (f : Forest) → count j (without k f) ≤ count j f
+count-without_le j k empty = omega arith
+count-without_le j k (node n c kids later) =
+    elim (same_cases k n) [
+      | inl q ↦ rw q.2 (omega arith)
+      | inr q ↦ rw q.2 (omega (arith, count-without_le j k kids, count-without_le j k later))
     ]
 
 -- so many nodes go
@@ -72,4 +82,60 @@ AreOrdinary-without k (node n c kids later) h =
     elim (same_cases k n) [
       | inl q ↦ rw q.2 h.2
       | inr q ↦ rw q.2 (h.0, AreOrdinary-without k kids h.1, AreOrdinary-without k later h.2)
+    ]
+
+-- ---- what is found there
+
+-- the children of another node that stays
+pub children-without : (k p : ℕ) (f : Forest) → count p f ≤ 1 → count k f ≤ 1 → 0 < count p (without k f) → children (find p (without k f)) ≡ without k (children (find p f))
+children-without k p empty op ok h = absurd (omega arith)
+children-without k p (node n c kids later) op ok h =
+    elim (same_cases k n) [
+      | inl q ↦
+          let h' : 0 < count p later = rw q.2 at h in
+          elim (same_cases p n) [
+            | inl r ↦ absurd (omega arith)
+            | inr r ↦
+                let none : count k (children (find p later)) ≡ 0 = omega (arith, count-find k p later, count-parts k (find p later)) in
+                rw (q.2, r.2, find-none p kids (omega arith)) (sym (without-none k (children (find p later)) none))
+          ]
+      | inr q ↦
+          let h' : 0 < same p n + (count p (without k kids) + count p (without k later)) = rw q.2 at h in
+          elim (same_cases p n) [
+            | inl r ↦ rw (q.2, r.2) refl
+            | inr r ↦ elim (cases_eq (count p (without k kids)) 0) [
+              | inr some ↦
+                  rw (q.2, r.2, find-counted p (without k kids) (find p (without k later)) (omega arith), find-counted p kids (find p later) (omega (arith, count-without_le p k kids)))
+                  (children-without k p kids (omega arith) (omega arith) (omega arith))
+              | inl none ↦
+                  rw (q.2, r.2, find-none p (without k kids) none, find-none p kids (omega (arith, count-without_le p k later)))
+                  (children-without k p later (omega arith) (omega arith) (omega arith))
+            ]
+          ]
+    ]
+
+-- and its depth
+pub depth_in-without : (k p d : ℕ) (f : Forest) → count p f ≤ 1 → 0 < count p (without k f) → depth_in p d (without k f) ≡ depth_in p d f
+depth_in-without k p d empty op h = absurd (omega arith)
+depth_in-without k p d (node n c kids later) op h =
+    elim (same_cases k n) [
+      | inl q ↦
+          let h' : 0 < count p later = rw q.2 at h in
+          elim (same_cases p n) [
+            | inl r ↦ absurd (omega arith)
+            | inr r ↦ rw (q.2, r.2, depth_in-none p (suc d) kids (omega arith)) refl
+          ]
+      | inr q ↦
+          let h' : 0 < same p n + (count p (without k kids) + count p (without k later)) = rw q.2 at h in
+          elim (same_cases p n) [
+            | inl r ↦ rw (q.2, r.2) refl
+            | inr r ↦ elim (cases_eq (count p (without k kids)) 0) [
+              | inr some ↦
+                  let e : depth_in p (suc d) (without k kids) ≡ depth_in p (suc d) kids = depth_in-without k p (suc d) kids (omega arith) (omega arith) in
+                  rw (q.2, r.2, e, depth_in-none p d later (omega (arith, count-without_le p k kids)), depth_in-none p d (without k later) (omega (arith, count-without_le p k kids, count-without_le p k later))) refl
+              | inl none ↦
+                  rw (q.2, r.2, depth_in-none p (suc d) (without k kids) none, depth_in-none p (suc d) kids (omega (arith, count-without_le p k later)))
+                  (depth_in-without k p d later (omega arith) (omega arith))
+            ]
+          ]
     ]

@@ -185,7 +185,7 @@ payload-set slots i k v same =
     ]
 
 -- a link keeps what each slot holds
-payload-with_link : (n p b k : ℕ) (slots : List Slot) → (slot_at (with_link n p b slots) k).payload ≡ (slot_at slots k).payload
+pub payload-with_link : (n p b k : ℕ) (slots : List Slot) → (slot_at (with_link n p b slots) k).payload ≡ (slot_at slots k).payload
 payload-with_link n p b k slots =
     elim (cases_eq b 0) [
       | inl z ↦ rw (eq-eqb b 0 z) (payload-set slots p k _ refl)
@@ -193,7 +193,7 @@ payload-with_link n p b k slots =
     ]
 
 -- nor does one back
-payload-with_back_link : (n p a k : ℕ) (slots : List Slot) → (slot_at (with_back_link n p a slots) k).payload ≡ (slot_at slots k).payload
+pub payload-with_back_link : (n p a k : ℕ) (slots : List Slot) → (slot_at (with_back_link n p a slots) k).payload ≡ (slot_at slots k).payload
 payload-with_back_link n p a k slots =
     elim (cases_eq a 0) [
       | inl z ↦ rw (eq-eqb a 0 z) (payload-set slots p k _ refl)

@@ -74,6 +74,10 @@ past k slots =
     with_back_link (slot_at slots k).previous (slot_at slots k).parent (slot_at slots k).next
     (with_link (slot_at slots k).next (slot_at slots k).parent (slot_at slots k).previous slots)
 
+-- a number, or where it is the one to be skipped that of the next sibling
+abbrev pub skipped_to : (ℕ → Slot) → ℕ → ℕ → ℕ
+skipped_to s skipped k = cond (k == skipped) (s k).next k
+
 -- the number so many steps up from k
 abbrev pub climbed : (ℕ → Slot) → ℕ → ℕ → ℕ
 climbed s zero k = k
