@@ -119,6 +119,25 @@ module _ (slots : List Slot) (f : Forest) (stands : Stands slots f) (n : ℕ) (u
     | inr x ↦ omega (arith, count-subtree j, x.1, own.no_zero, ap (λ (i : ℕ). count i under) e)
   ]
 
+module _ (slots : List Slot) (f : Forest) (stands : Stands slots f) (n : ℕ) (used : IsUsed slots n) (nz : n ≡ 0 → ⊥) (p : ℕ) (used_p : IsUsed slots p) (apart : count p (subtree n f) ≡ 0) where
+  -- another node stays
+  pub stays : 0 < count p (rooted (without n f))
+  stays =
+      let out : same p n + count p (children (find n (rooted f))) ≡ 0 = omega (arith, apart, count-subtree slots f stands n used nz p) in
+      omega (arith, total slots f stands n used nz p, out, stands_used slots f stands p used_p)
+
+  stays_rooted : 0 < count p (without n (rooted f))
+  stays_rooted = rw (without-rooted n f nz) stays
+
+  -- with its other children
+  pub others_same : children (find p (rooted (without n f))) ≡ without n (children (find p (rooted f)))
+  others_same =
+      ap (λ (x : Forest). children (find p x)) (sym (without-rooted n f nz)) ∙ children-without n p (rooted f) (stands.tree.once p) (stands.tree.once n) stays_rooted
+
+  -- and its depth
+  pub depth_same : depth_in p 0 (rooted (without n f)) ≡ depth_in p 0 (rooted f)
+  depth_same = ap (depth_in p 0) (sym (without-rooted n f nz)) ∙ depth_in-without n p 0 (rooted f) (stands.tree.once p) stays_rooted
+
 -- the slot of a node with another place
 placed_cell : (x : Slot) (p a b : ℕ) (c : Content) (under : Forest) → x.first_child ≡ head under → x.last_child ≡ last under → x.payload ≡ payload_of c
     → (let y : Slot = record x { parent = p; next = a; previous = b } in y) ≡ cell p under a b c
@@ -150,15 +169,9 @@ moved_arena slots nodes n p i b a made arena can em =
     let whole' : subtree n f ≡ node n d kk empty = whole slots f stands n can.node can.not_document in
     let beside' : StandsBeside mid g n kk = stands_beside slots f stands n can.node can.not_document in
     let kept : slot_at mid n ≡ slot_at slots n = slot_kept slots f stands n can.node can.not_document in
-    let out : same p n + count p kk ≡ 0 = omega (arith, can.apart, count-subtree slots f stands n can.node can.not_document p) in
-    let there : 0 < count p (rooted g) = omega (arith, total slots f stands n can.node can.not_document p, out, stands_used slots f stands p can.used) in
-    let there' : 0 < count p (without n (rooted f)) = rw (without-rooted n f can.not_document) there in
-    let once_p : count p (rooted f) ≤ 1 = stands.tree.once p in
-    let once_n : count n (rooted f) ≤ 1 = stands.tree.once n in
-    let kids_same : children (find p (rooted g)) ≡ without n (children (find p (rooted f))) =
-    ap (λ (x : Forest). children (find p x)) (sym (without-rooted n f can.not_document)) ∙ children-without n p (rooted f) once_p once_n there' in
-    let deep : depth_in p 0 (rooted g) ≡ Some can.depth =
-    ap (depth_in p 0) (sym (without-rooted n f can.not_document)) ∙ depth_in-without n p 0 (rooted f) once_p there' ∙ can.deep in
+    let there : 0 < count p (rooted g) = stays slots f stands n can.node can.not_document p can.used can.apart in
+    let kids_same : children (find p (rooted g)) ≡ without n (children (find p (rooted f))) = others_same slots f stands n can.node can.not_document p can.used can.apart in
+    let deep : depth_in p 0 (rooted g) ≡ Some can.depth = depth_same slots f stands n can.node can.not_document p can.used can.apart ∙ can.deep in
     let holds : may_hold (slot_at mid p).payload ≡ true = ap may_hold (payload-past n p slots) ∙ can.holds in
     let may : MayHave d kk = subst (MayHave d) (same_under slots f stands n can.node can.not_document) is_part.may in
     let le : i ≤ length (tops (children (find p (rooted g)))) = rw kids_same can.within in
