@@ -3,80 +3,15 @@ use Rattle.std.proofs.Common.{◌≡◌, ℕ, ◌<◌, ◌≤◌, cond, eqb, Lis
 use Rattle.std.proofs.lemmas.Bool.{cases_eq, eq-eqb, ne_eqb}
 use Rattle.std.proofs.lemmas.List.{append-nil}
 use Rattle.page_tree.specs.Forest.{Content, document, Forest, empty, node, rooted, count, numbers, head, first, or_else, find, children, or_some, first_in, behind}
-use Rattle.page_tree.specs.Edits.{with_children, behind_subtree}
+use Rattle.page_tree.specs.Edits.{behind_subtree}
 use Rattle.dom_arena.specs.declared.table.Slot.{Slot}
 use Rattle.dom_arena.specs.Slots.{slot_at, IsUsed, number_of}
 use Rattle.dom_arena.specs.Linked.{Linked, Stands}
 use Rattle.dom_arena.proofs.Links.{same_cases, find-none, stands_used, first_child_found}
 use Rattle.dom_arena.proofs.Siblings.{same-eq}
-use Rattle.dom_arena.proofs.Grafts.{with_children-none}
-use Rattle.dom_arena.proofs.Regrafts.{children-given}
+use Rattle.page_tree.proofs.Below.{beyond, beyond-same, beyond-kids, beyond-later, behind-skip, behind-numbers}
+use Rattle.page_tree.proofs.Behind.{behind_subtree-beyond}
 use Rattle.dom_arena.proofs.Family.{counted_used}
-
--- the number behind a node and all below it in document order, where `rest` follows the forest
-abbrev pub beyond : ℕ → Forest → Option ℕ → Option ℕ
-beyond k empty rest = None
-beyond k (node n c kids later) rest =
-    cond (eqb k n) (or_some (first later) rest)
-    (cond (eqb (count k kids) 0) (beyond k later rest) (beyond k kids (or_some (first later) rest)))
-
--- beyond the first node
-beyond-same : (k n : ℕ) (c : Content) (kids later : Forest) (rest : Option ℕ) → k ≡ n → beyond k (node n c kids later) rest ≡ or_some (first later) rest
-beyond-same k n c kids later rest e = rw (eq-eqb k n e) refl
-
--- beyond a node below the first one
-beyond-kids : (k n : ℕ) (c : Content) (kids later : Forest) (rest : Option ℕ) → (k ≡ n → ⊥) → 0 < count k kids → beyond k (node n c kids later) rest ≡ beyond k kids (or_some (first later) rest)
-beyond-kids k n c kids later rest ne h = rw (ne_eqb k n ne, ne_eqb (count k kids) 0 (λ e. omega arith)) refl
-
--- beyond a node behind the first one
-beyond-later : (k n : ℕ) (c : Content) (kids later : Forest) (rest : Option ℕ) → (k ≡ n → ⊥) → count k kids ≡ 0 → beyond k (node n c kids later) rest ≡ beyond k later rest
-beyond-later k n c kids later rest ne z = rw (ne_eqb k n ne, eq-eqb (count k kids) 0 z) refl
-
--- the first number of a forest before others
-first_in-numbers : (f : Forest) (xs : List ℕ) → first_in (numbers f ++ xs) ≡ or_some (first f) (first_in xs)
-first_in-numbers empty xs = refl
-first_in-numbers (node n c kids later) xs = refl
-
--- a node that is not in a forest is looked for behind it
-behind-skip : (k : ℕ) (f : Forest) (xs : List ℕ) → count k f ≡ 0 → behind k (numbers f ++ xs) ≡ behind k xs
-behind-skip k empty xs z = refl
-behind-skip k (node n c kids later) xs z =
-    elim (same_cases k n) [
-      | inl q ↦ absurd (omega arith)
-      | inr q ↦ rw (q.2, append_assoc (numbers kids) (numbers later) xs) (behind-skip k kids (numbers later ++ xs) (omega arith) ∙ behind-skip k later xs (omega arith))
-    ]
-
--- a node that was found is not looked for further on
-pub find-counted : (k : ℕ) (f g : Forest) → 0 < count k f → or_else (find k f) g ≡ find k f
-find-counted k empty g h = absurd (omega arith)
-find-counted k (node n c kids later) g h =
-    elim (same_cases k n) [
-      | inl q ↦ rw q.2 refl
-      | inr q ↦ rw q.2 (elim (cases_eq (count k kids) 0) [
-        | inl z ↦ either (find k kids) (find k later) (find-counted k later g (omega arith))
-        | inr z ↦ ap (λ (x : Forest). or_else x g) (find-counted k kids (find k later) (omega arith)) ∙ find-counted k kids g (omega arith) ∙ sym (find-counted k kids (find k later) (omega arith))
-      ])
-    ]
-  where
-    either : (x y : Forest) → or_else y g ≡ y → or_else (or_else x y) g ≡ or_else x y
-    either empty y e = e
-    either (node m d ks ls) y e = refl
-
--- the number behind a node is its first child's, or else the one beyond it
-behind-numbers : (k : ℕ) (f : Forest) (xs : List ℕ) → 0 < count k f → behind k (numbers f ++ xs) ≡ or_some (first (children (find k f))) (beyond k f (first_in xs))
-behind-numbers k empty xs h = absurd (omega arith)
-behind-numbers k (node n c kids later) xs h =
-    elim (same_cases k n) [
-      | inl q ↦ rw q.2 (ap first_in (append_assoc (numbers kids) (numbers later) xs) ∙ first_in-numbers kids (numbers later ++ xs) ∙ ap (or_some (first kids)) (first_in-numbers later xs))
-      | inr q ↦ rw (q.2, append_assoc (numbers kids) (numbers later) xs) (elim (cases_eq (count k kids) 0) [
-        | inl z ↦
-            rw (eq-eqb (count k kids) 0 z, find-none k kids z)
-            (behind-skip k kids (numbers later ++ xs) z ∙ behind-numbers k later xs (omega arith))
-        | inr z ↦
-            rw (ne_eqb (count k kids) 0 z, find-counted k kids (find k later) (omega arith))
-            (behind-numbers k kids (numbers later ++ xs) (omega arith) ∙ ap (λ (o : Option ℕ). or_some (first (children (find k kids))) (beyond k kids o)) (first_in-numbers later xs))
-      ])
-    ]
 
 -- beyond a node with a next sibling is that sibling
 pub beyond-next : (s : ℕ → Slot) (k : ℕ) (f : Forest) (p b : ℕ) (rest : Option ℕ) → Linked s p b f → 0 < count k f → ((s k).next ≡ 0 → ⊥) → beyond k f rest ≡ Some (s k).next
@@ -130,48 +65,6 @@ beyond-up s k (node n c kids later) p b rest l z once h end =
     above_kids : (j : ℕ) → 0 < count j kids → beyond j (node n c kids later) rest ≡ beyond j kids (or_some (first later) rest)
     above_kids j h' = beyond-kids j n c kids later rest (λ e. omega (arith, same-eq j n e, once j)) h'
 
--- ---- a node without its children
-
--- new children of k
-given_other : (k n : ℕ) (c : Content) (kids later g : Forest) → (k ≡ n → ⊥) → with_children k g (node n c kids later) ≡ node n c (with_children k g kids) (with_children k g later)
-given_other k n c kids later g ne = rw (ne_eqb k n ne) refl
-
--- it is still there
-count-given : (k : ℕ) (g f : Forest) → 0 < count k f → 0 < count k (with_children k g f)
-count-given k g empty h = absurd (omega arith)
-count-given k g (node n c kids later) h =
-    elim (same_cases k n) [
-      | inl q ↦ omega arith
-      | inr q ↦ rw (given_other k n c kids later g q.0) (elim (cases_eq (count k kids) 0) [
-        | inl z ↦ omega (arith, count-given k g later (omega arith))
-        | inr z ↦ omega (arith, count-given k g kids (omega arith))
-      ])
-    ]
-
-first-given : (k : ℕ) (g f : Forest) → first (with_children k g f) ≡ first f
-first-given k g empty = refl
-first-given k g (node n c kids later) = refl
-
--- the same stands beyond it
-beyond-given : (k : ℕ) (g f : Forest) (rest : Option ℕ) → beyond k (with_children k g f) rest ≡ beyond k f rest
-beyond-given k g empty rest = refl
-beyond-given k g (node n c kids later) rest =
-    elim (same_cases k n) [
-      | inl q ↦
-          beyond-same k n c (cond (eqb k n) g (with_children k g kids)) (with_children k g later) rest q.0 ∙ ap (λ (o : Option ℕ). or_some o rest) (first-given k g later)
-          ∙ sym (beyond-same k n c kids later rest q.0)
-      | inr q ↦ ap (λ (x : Forest). beyond k x rest) (given_other k n c kids later g q.0) ∙ (elim (cases_eq (count k kids) 0) [
-        | inl z ↦
-            beyond-later k n c (with_children k g kids) (with_children k g later) rest q.0 (ap (count k) (with_children-none k g kids z) ∙ z)
-            ∙ beyond-given k g later rest ∙ sym (beyond-later k n c kids later rest q.0 z)
-        | inr z ↦
-            beyond-kids k n c (with_children k g kids) (with_children k g later) rest q.0 (count-given k g kids (omega arith))
-            ∙ beyond-given k g kids (or_some (first (with_children k g later)) rest)
-            ∙ ap (λ (o : Option ℕ). beyond k kids (or_some o rest)) (first-given k g later)
-            ∙ sym (beyond-kids k n c kids later rest q.0 (omega arith))
-      ])
-    ]
-
 module _ (slots : List Slot) (f : Forest) (stands : Stands slots f) where
   -- nothing is beyond the document
   none_beyond : beyond 0 (rooted f) None ≡ None
@@ -204,7 +97,7 @@ module _ (slots : List Slot) (f : Forest) (stands : Stands slots f) where
   behind_node : (k : ℕ) → IsUsed slots k → behind k (numbers (rooted f)) ≡ or_some (number_of (slot_at slots k).first_child) (beyond k (rooted f) None)
   behind_node k used =
       ap (behind k) (sym (append-nil (numbers (rooted f))))
-      ∙ behind-numbers k (rooted f) [] (stands_used slots f stands k used)
+      ∙ behind-numbers k (rooted f) [] stands.tree.once (stands_used slots f stands k used)
       ∙ ap (λ (o : Option ℕ). or_some o (beyond k (rooted f) None)) (sym (first_child_found slots f stands k))
 
   -- behind a node with children
@@ -219,12 +112,7 @@ module _ (slots : List Slot) (f : Forest) (stands : Stands slots f) where
 
   -- behind a node and all below it is what is beyond it
   pub behind_whole : (k : ℕ) → IsUsed slots k → behind_subtree k (rooted f) ≡ beyond k (rooted f) None
-  behind_whole k used =
-      let counted : count k (rooted f) ≡ 1 = omega (arith, stands_used slots f stands k used, stands.tree.once k) in
-      ap (behind k) (sym (append-nil (numbers (with_children k empty (rooted f)))))
-      ∙ behind-numbers k (with_children k empty (rooted f)) [] (count-given k empty (rooted f) (omega arith))
-      ∙ ap (λ (g : Forest). or_some (first g) (beyond k (with_children k empty (rooted f)) None)) (children-given k empty (rooted f) counted)
-      ∙ beyond-given k empty (rooted f) None
+  behind_whole k used = behind_subtree-beyond k (rooted f) (omega (arith, stands_used slots f stands k used, stands.tree.once k))
 
   -- the way up ends at the document
   pub behind_end : (k : ℕ) → k ≡ 0 → beyond k (rooted f) None ≡ None
@@ -233,6 +121,3 @@ module _ (slots : List Slot) (f : Forest) (stands : Stands slots f) where
 -- nothing is behind what is no node
 pub behind-none : (f : Forest) (k : ℕ) → count k (rooted f) ≡ 0 → behind k (numbers (rooted f)) ≡ None
 behind-none f k z = ap (behind k) (sym (append-nil (numbers (rooted f)))) ∙ behind-skip k (rooted f) [] z
-
-pub behind_whole-none : (f : Forest) (k : ℕ) → count k (rooted f) ≡ 0 → behind_subtree k (rooted f) ≡ None
-behind_whole-none f k z = ap (λ (g : Forest). behind k (numbers g)) (with_children-none k empty (rooted f) z) ∙ behind-none f k z

@@ -9,7 +9,7 @@ use Rattle.dom_arena.specs.Linked.{Linked}
 use Rattle.dom_arena.proofs.Links.{same_cases, find-none}
 use Rattle.dom_arena.proofs.Siblings.{same-same, same-eq, counted_apart, Linked-frame}
 use Rattle.dom_arena.proofs.Grafts.{with_children-none}
-use Rattle.dom_arena.proofs.Order.{find-counted}
+use Rattle.page_tree.proofs.Finding.{find-counted}
 use Rattle.dom_arena.proofs.Without.{without-none}
 
 -- how often a number stands among the siblings at the top

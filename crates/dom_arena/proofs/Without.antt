@@ -6,7 +6,7 @@ use Rattle.page_tree.specs.Edits.{without, with_children}
 use Rattle.page_tree.specs.Trees.{MayHave, IsGrown, AreOrdinary}
 use Rattle.dom_arena.proofs.Heights.{depth_in-none}
 use Rattle.dom_arena.proofs.Links.{same_cases, find-none, count-find, count-parts}
-use Rattle.dom_arena.proofs.Order.{find-counted}
+use Rattle.page_tree.proofs.Finding.{find-counted}
 
 -- without what is no node nothing changes
 pub without-none : (k : ℕ) (f : Forest) → count k f ≡ 0 → without k f ≡ f

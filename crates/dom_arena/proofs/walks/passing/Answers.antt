@@ -3,7 +3,8 @@ use Rattle.page_tree.specs.Forest.{rooted, depth_in}
 use Rattle.dom_arena.specs.Linked.{tree_of}
 use Rattle.dom_arena.specs.Slots.{IsUsed}
 use Rattle.dom_arena.proofs.Depths.{up_facts, falls}
-use Rattle.dom_arena.proofs.Order.{beyond, behind_whole, behind_end, next_beyond, up_beyond}
+use Rattle.page_tree.proofs.Below.{beyond}
+use Rattle.dom_arena.proofs.Order.{behind_whole, behind_end, next_beyond, up_beyond}
 use Rattle.dom_arena.proofs.walks.passing.Goals as goal
 
 pub loop-at-init : goal.loop-at-init
