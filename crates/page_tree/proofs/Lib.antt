@@ -1,8 +1,14 @@
 pub mod Members
 pub mod Finding
+pub mod Totals
+pub mod Depths
+pub mod Cuts
+pub mod Keeps
 pub mod Elements
 pub mod Around
 pub mod Parts
 pub mod Below
+pub mod Regrafts
+pub mod Behind
 pub mod Walk
 pub mod Sides
