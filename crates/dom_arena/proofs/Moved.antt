@@ -7,16 +7,18 @@ use Rattle.page_tree.specs.Trees.{MayHave, IsGrown, IsOrdinary, AreOrdinary}
 use Rattle.dom_arena.specs.declared.table.Slot.{Slot}
 use Rattle.dom_arena.specs.Contents.{payload_of, content_of, may_hold}
 use Rattle.dom_arena.specs.Slots.{slot_at, IsUsed, last, cell, with_link, past, placed}
-use Rattle.dom_arena.specs.Linked.{Linked, Stands, IsArena, tree_of, forest_of, from_place, before_place}
+use Rattle.dom_arena.specs.Linked.{Linked, Stands, IsArena, tree_of, kids_of, forest_of, from_place, before_place}
 use Rattle.dom_arena.specs.Moves.{CanMove}
+use Rattle.dom_arena.specs.Parts.{part_from, HoldPart}
+use Rattle.dom_arena.proofs.Parting.{part_from-linked}
 use Rattle.dom_arena.proofs.Links.{same_cases, forest_of-linked, content_of-payload_of, count-find, count-parts, stands_used, or_else-empty, no_zero, IsCell, IsCell-find}
-use Rattle.dom_arena.proofs.Siblings.{same-eq, counted_apart}
-use Rattle.dom_arena.proofs.Family.{Family, family, found_node}
+use Rattle.dom_arena.proofs.Siblings.{same-eq, counted_apart, before_place-in, from_place-in}
+use Rattle.dom_arena.proofs.Family.{Family, family, found_node, counted_used}
 use Rattle.dom_arena.proofs.Ordinary.{AreOrdinary-find, IsGrown-find}
 use Rattle.dom_arena.proofs.Added.{tree_of-stands, Stands-viewed}
 use Rattle.dom_arena.proofs.Placed.{StandsBeside, Stands-placed_by, size_nodes}
 use Rattle.dom_arena.proofs.Unlinked.{count_tops-le, IsChild, child_of}
-use Rattle.dom_arena.proofs.Without.{children-without, depth_in-without}
+use Rattle.dom_arena.proofs.Without.{count-without_le, children-without, depth_in-without}
 use Rattle.dom_arena.proofs.Detached.{linked_unique, kids_of_cell, without-rooted, total, sizes, slot_kept, stands_beside, length_made}
 use Rattle.dom_arena.proofs.Writes.{payload-with_link, payload-with_back_link, length-placed}
 
@@ -68,6 +70,27 @@ module _ (slots : List Slot) (f : Forest) (stands : Stands slots f) (n : ℕ) (u
 
   own : Family slots n under
   own = family slots f stands n used
+
+  -- what is below it is a part of the slots
+  pub part_under : (first : ℕ) → first ≡ (slot_at slots n).first_child → HoldPart slots (part_from slots first) first × (part_from slots first ≡ under)
+  part_under first e =
+      let headed : first ≡ head under = e ∙ own.first in
+      let all : size (without n f) + suc (size under) ≡ size f = sizes slots f stands n used nz in
+      let fits : size under ≤ length slots = omega (arith, all, stands.fits) in
+      let same_part : part_from slots first ≡ under = part_from-linked slots under first n 0 own.linked headed own.no_zero fits in (
+        subst (λ (g : Forest). HoldPart slots g first) (sym same_part)
+            (record {
+              parent = n;
+              previous = 0;
+              linked = own.linked;
+              headed = sym headed;
+              once = own.once;
+              no_zero = own.no_zero;
+              fits = fits;
+              few = omega (arith, all, stands.tree.few);
+            }),
+        same_part,
+      )
 
   -- on the way up from a node, it is as much below n as its parent
   module _ (j : ℕ) (used_j : IsUsed slots j) (other : j ≡ n → ⊥) (nz_j : j ≡ 0 → ⊥) where
@@ -198,3 +221,23 @@ moved_arena slots nodes n p i b a made arena can em =
       },
       same_tree,
     )
+
+-- the siblings beside the new place are nodes, and stay so where the node leaves its old place
+module _ (slots : List Slot) (stands : Stands slots (tree_of slots).nodes) (n p i b a : ℕ) (can : CanMove slots n p i b a) where
+  among_used : (k : ℕ) → 0 < count k (without n (kids_of p (tree_of slots))) → IsUsed (past n slots) k
+  among_used k h =
+      used-past n k slots
+      (counted_used slots (tree_of slots).nodes stands k
+      (omega (arith, count-without_le k n (kids_of p (tree_of slots)), count-find k p (rooted (tree_of slots).nodes), count-parts k (find p (rooted (tree_of slots).nodes)))))
+
+  pub before_used_then : (b ≡ 0 → ⊥) → IsUsed (past n slots) b
+  before_used_then ne = elim (before_place-in 0 i (without n (kids_of p (tree_of slots)))) [
+    | inl e ↦ absurd (ne (can.left ∙ e))
+    | inr h ↦ among_used b (rw can.left h)
+  ]
+
+  pub after_used_then : (a ≡ 0 → ⊥) → IsUsed (past n slots) a
+  after_used_then ne = elim (from_place-in i (without n (kids_of p (tree_of slots)))) [
+    | inl e ↦ absurd (ne (can.right ∙ e))
+    | inr h ↦ among_used a (rw can.right h)
+  ]

@@ -97,7 +97,7 @@ module _ (slots : List Slot) (f : Forest) (stands : Stands slots f) where
   behind_node : (k : ℕ) → IsUsed slots k → behind k (numbers (rooted f)) ≡ or_some (number_of (slot_at slots k).first_child) (beyond k (rooted f) None)
   behind_node k used =
       ap (behind k) (sym (append-nil (numbers (rooted f))))
-      ∙ behind-numbers k (rooted f) [] stands.tree.once (stands_used slots f stands k used)
+      ∙ behind-numbers k (rooted f) [] (stands_used slots f stands k used)
       ∙ ap (λ (o : Option ℕ). or_some o (beyond k (rooted f) None)) (sym (first_child_found slots f stands k))
 
   -- behind a node with children

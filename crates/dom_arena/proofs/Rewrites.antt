@@ -114,7 +114,6 @@ module _ (slots : List Slot) (f : Forest) (stands : Stands slots f) (k : ℕ) (u
 -- ---- the slots with other attributes stand for the tree with them
 
 module _ (slots : List Slot) (f : Forest) (stands : Stands slots f) (k : ℕ) (used : IsUsed slots k) (nz : k ≡ 0 → ⊥) (new : Content) (ordinary : IsOrdinary new) (grown : IsGrown (with_content k new f)) where
-
   abbrev new_slots : List Slot
   new_slots = with_payload k (payload_of new) slots
 

@@ -1,5 +1,5 @@
 //! Nodes taken out with all that is below them, and what is to be known before one is moved.
-ghost use Rattle.std.specs.Prelude.{◌≡◌, ◌+◌, length};
+ghost use Rattle.std.specs.Prelude.{◌≡◌, ◌+◌, max, length};
 ghost use Rattle.page_tree.specs.Edits.{without};
 ghost use Rattle.page_tree.specs.Forest.{size, height};
 ghost use Rattle.dom_arena.specs.Linked.{Stands, tree_of};
@@ -44,6 +44,12 @@ fn clear_all(table: &mut Table, first: u32) -> u32
     count
 }
 
+fn higher(height: u32, other: u32) -> u32
+    ensures { result ≡ max height other }
+{
+    if height < other { other } else { height }
+}
+
 // How many levels there are from these siblings on down.
 pub(crate) fn height_from(table: &Table, first: u32) -> u32
     requires { HoldPart table.now.0 (part_from table.now.0 first) first }
@@ -53,9 +59,7 @@ pub(crate) fn height_from(table: &Table, first: u32) -> u32
     let mut at = first;
     while at != 0 {
         let below = height_from(table, table.first_child(at));
-        if height <= below {
-            height = below + 1;
-        }
+        height = higher(height, below + 1);
         at = table.next(at);
     }
     height

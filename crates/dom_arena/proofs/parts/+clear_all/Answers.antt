@@ -16,6 +16,18 @@ clear_all-more-requires t c =
     let falls : size (part_from c.loop-at.table.0 c.first_child-below.result) < t = omega (arith, o.fewer_below, inv.counted, d) in
     (falls, o.held_below)
 
+pub overflow_add-count : goal.overflow_add-count
+overflow_add-count t c =
+    let inv = c.loop-at.invariant in
+    let o = opened c.loop-at.table.0 _ c.loop-at.at c.first_child-below.result c.next-next.result inv.rest c.loop-at-test.true c.first_child-below.ensures c.next-next.ensures in
+    omega (arith, o.fewer_below, inv.rest.few, c.clear_all-more.ensures.count)
+
+pub overflow_add-count-in-loop-at : goal.overflow_add-count-in-loop-at
+overflow_add-count-in-loop-at t c =
+    let inv = c.loop-at.invariant in
+    let o = opened c.loop-at.table.0 _ c.loop-at.at c.first_child-below.result c.next-next.result inv.rest c.loop-at-test.true c.first_child-below.ensures c.next-next.ensures in
+    omega (arith, o.fewer_below, inv.counted, c.requires.few, c.clear_all-more.ensures.count)
+
 pub loop-at-preserved : goal.loop-at-preserved
 loop-at-preserved t c =
     subst (λ (l : List Slot). AreClearedTo (part_from c.args.table.now.0 c.args.first) c.args.table.now.0 l c.next-next.result (c.loop-at.count + (c.clear_all-more.result + 1))) (sym c.clear.ensures)
