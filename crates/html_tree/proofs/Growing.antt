@@ -2,13 +2,13 @@
 use Rattle.std.proofs.Common.{◌≡◌, ℕ, zero, suc, ◌+◌, ◌-◌, ◌<◌, ◌≤◌, ⊎_elim, Bool, true, false, cond, not, List, [], ◌∷◌, ◌++◌, length, take, refl, arith, ap, sym, ◌∙◌, subst, map, Option, Some, None, option_map, nat_lt, nat_le, zero-add}
 use Rattle.std.proofs.lemmas.List.{length-map}
 use Rattle.std.proofs.lemmas.Bool.{eq-eqb, lt-ltb, le-ltb, le-leb, lt-leb, cases_lt}
-use Rattle.std.specs.Prelude.{◌==◌, slice_index}
+use Rattle.std.specs.Prelude.{◌==◌, slice_index, if◌then◌else◌}
+use Rattle.std.specs.Option.{option_or}
 use Rattle.page_tree.specs.Forest.{Content, document, element, text, comment, Forest, empty, node, Tree, rooted, count, size, tops, find, children, depth_in, or_some}
 use Rattle.page_tree.specs.Edits.{joined, children_of}
 use Rattle.page_tree.specs.Fragments.{TooDeep, TooManyNodes, hung}
 use Rattle.page_tree.specs.declared.TheConstants.{NODE_LIMIT, DEPTH_LIMIT}
-use Rattle.dom_arena.specs.declared.refusals.DomError.TheVariants.{TooDeep as DepthPast, TooManyNodes as NumberPast}
-use Rattle.dom_arena.specs.Refusals.{or_error, place_past, place_among, place_refused, too_deep, too_many, limits_refused, append_refused, dom_error}
+use Rattle.page_tree.specs.Refusals.{Refusal, past_limit, parent_among, place_past, place_refused, limits_refused, graft_refused}
 use Rattle.html_meaning.specs.Page.{OpenElement, innermost}
 use Rattle.html_tree.specs.Limits.{next_limit}
 use Rattle.html_tree.proofs.Spine.{OnSpine, the_document, same-other, find-none, or_else_empty, spine_counts}
@@ -61,7 +61,7 @@ hold-leaf (p ∷ elements) new (node n d kids (node l e inner later)) s =
 
 -- a place among the children of what was found is refused only where it is past them
 abbrev Accepts : ℕ → Forest → Type 0
-Accepts p f = place_among p (length (tops (children f))) f ≡ None
+Accepts p f = option_or (parent_among p f) (place_past (length (tops (children f))) (length (tops (children f)))) ≡ None
 
 not_past : (n : ℕ) → place_past n n ≡ None
 not_past n = let h : n ≤ n = omega arith in rw (le-ltb n n h) refl
@@ -135,37 +135,22 @@ last_depth d up o elements (node n c kids (node m e inner later)) s h =
     let none : count last kids ≡ 0 = omega (arith, h, one) in
     depth_along last n d c kids (node m e inner later) other none ∙ last_depth d up o elements (node m e inner later) s (omega (arith, h))
 
--- the limits that the arena knows are those of the reader
-not_below : (a b : ℕ) → not (nat_lt a b) ≡ nat_lt b (suc a)
-not_below a b = ⊎_elim (λ h. rw (lt-ltb a b h, le-ltb b (suc a) h) refl) (λ h. (let k : b < suc a = omega (arith, h) in rw (le-ltb a b h, lt-ltb b (suc a) k) refl)) (cases_lt a b)
-
-not_below_le : (a b : ℕ) → not (nat_lt a b) ≡ nat_le b a
-not_below_le a b = ⊎_elim (λ h. rw (lt-ltb a b h, lt-leb b a h) refl) (λ h. rw (le-ltb a b h, le-leb b a h) refl) (cases_lt a b)
-
-both_agree : (shallow few : Bool) → or_error (cond shallow None (Some DepthPast)) (cond few None (Some NumberPast))
-    ≡ option_map dom_error (cond (not shallow) (Some TooDeep) (cond (not few) (Some TooManyNodes) None))
-both_agree true true = refl
-both_agree true false = refl
-both_agree false true = refl
-both_agree false false = refl
-
-limits_agree : (d n : ℕ) → limits_refused (Some d) n ≡ option_map dom_error (next_limit 0 n d)
-limits_agree d n =
-    let deep : not (nat_lt d DEPTH_LIMIT) ≡ nat_lt DEPTH_LIMIT (0 + suc d) = not_below d DEPTH_LIMIT ∙ ap (nat_lt DEPTH_LIMIT) (sym (zero-add (suc d))) in
-    both_agree (nat_lt d DEPTH_LIMIT) (nat_lt n NODE_LIMIT)
-    ∙ ap (λ b. option_map dom_error (cond b (Some TooDeep) (cond (not (nat_lt n NODE_LIMIT)) (Some TooManyNodes) None))) deep
-    ∙ ap (λ b. option_map dom_error (cond (nat_lt DEPTH_LIMIT (0 + suc d)) (Some TooDeep) (cond b (Some TooManyNodes) None))) (not_below_le n NODE_LIMIT)
+-- the limits of one node are those of the reader
+limits_agree : (d n : ℕ) (c : Content) → limits_refused (Some d) n ((0, c) ∷ []) ≡ option_map past_limit (next_limit 0 n d)
+limits_agree d n c =
+    let same : d + suc 0 ≡ 0 + suc d = omega arith in
+    ap (λ (k : ℕ). option_map past_limit (if nat_lt DEPTH_LIMIT k then Some TooDeep else (if nat_le NODE_LIMIT n then Some TooManyNodes else None))) same
 
 -- a node below the innermost element is refused only by a limit that it passes
-pub append_is : (under : List OpenElement) (t : Tree) → OnSpine under t.nodes → AllHold under t.nodes → ((k : ℕ) → count k (rooted t.nodes) ≤ 1)
-    → append_refused (innermost 0 under) t ≡ option_map dom_error (next_limit 0 (size t.nodes) (length under))
-append_is under t s a once =
+pub append_is : (under : List OpenElement) (t : Tree) (c : Content) → OnSpine under t.nodes → AllHold under t.nodes → ((k : ℕ) → count k (rooted t.nodes) ≤ 1)
+    → graft_refused (innermost 0 under) (children_of (innermost 0 under) t) ((0, c) ∷ []) t ≡ option_map past_limit (next_limit 0 (size t.nodes) (length under))
+append_is under t c s a once =
     let last = innermost 0 under in
     let accepted : place_refused last (children_of last t) t ≡ None = last_accepts last 0 the_document under (rooted t.nodes) (refl, s) (refl, a) (once last) in
     let depth : depth_in last 0 (rooted t.nodes) ≡ Some (length under) =
     last_depth 0 0 the_document under (rooted t.nodes) (refl, s) (once last) ∙ ap Some (zero-add (length under)) in
-    ap (λ o. or_error o (limits_refused (depth_in last 0 (rooted t.nodes)) (size t.nodes))) accepted
-    ∙ ap (λ o. limits_refused o (size t.nodes)) depth ∙ limits_agree (length under) (size t.nodes)
+    ap (λ (o : Option Refusal). option_or o (limits_refused (depth_in last 0 (rooted t.nodes)) (size t.nodes) ((0, c) ∷ []))) accepted
+    ∙ ap (λ (o : Option ℕ). limits_refused o (size t.nodes) ((0, c) ∷ [])) depth ∙ limits_agree (length under) (size t.nodes) c
 
 -- the number of the innermost element is the last one
 pub innermost-last : (up : ℕ) (o : OpenElement) (elements : List OpenElement) → innermost up (o ∷ elements) ≡ slice_index (map (λ (o : OpenElement). o.number) (o ∷ elements)) (length elements)

@@ -4,11 +4,12 @@ use Rattle.std.proofs.lemmas.List.{append-nil, map-append, take-map}
 use Rattle.std.specs.Prelude.{slice_index}
 use Rattle.std.specs.Str.{str_to_ascii_lowercase}
 use Rattle.page_tree.specs.Forest.{Content, element, text, comment, Forest, empty, node, Tree, size}
-use Rattle.page_tree.specs.Edits.{appended}
+use Rattle.page_tree.specs.Edits.{appended, children_of}
 use Rattle.page_tree.specs.Trees.{IsOrdinary}
 use Rattle.page_tree.specs.Fragments.{Limit, TooDeep, TooManyNodes, hung, limit_passed}
 use Rattle.page_tree.specs.declared.TheConstants.{NODE_LIMIT}
-use Rattle.dom_arena.specs.Refusals.{append_refused, dom_error}
+use Rattle.page_tree.specs.Refusals.{past_limit, graft_refused}
+use Rattle.dom_arena.specs.Refusals.{error_of as dom_error}
 use Rattle.html_meaning.specs.Elements.{has_content}
 use Rattle.html_meaning.specs.Tokens.{tokens, Piece, Token, Start, End, Chars, Comment, Doctype, Cut}
 use Rattle.html_meaning.specs.Page.{OpenElement, Role, Opens, Ends, Leaf, Nothing, by_depth, fragment, page, innermost, PageNode, role_of, content_of, element_attributes, opened, nodes_from, with_nodes}
@@ -136,10 +137,10 @@ module _ (names : List (List ℕ)) (numbers : List ℕ) (t : Token) (ts : List T
   hold = hold-front count g.elements old.nodes g.hold
 
   -- the arena refuses the node where it passes a limit
-  pub grown_refusal : append_refused parent old ≡ option_map dom_error (next_limit 0 (size old.nodes) count)
+  pub grown_refusal : graft_refused parent (children_of parent old) ((0, c) ∷ []) old ≡ option_map past_limit (next_limit 0 (size old.nodes) count)
   grown_refusal =
-      ap (λ q. append_refused q old) (sym at) ∙ append_is under old goes.spine hold goes.once
-      ∙ ap (λ d. option_map dom_error (next_limit 0 (size old.nodes) d)) long
+      ap (λ (q : ℕ). graft_refused q (children_of q old) ((0, c) ∷ []) old) (sym at) ∙ append_is under old c goes.spine hold goes.once
+      ∙ ap (λ (d : ℕ). option_map past_limit (next_limit 0 (size old.nodes) d)) long
 
   pub grown_limit : (limit : Limit) → next_limit 0 (size old.nodes) count ≡ Some limit → limit_passed 0 0 (fragment source) ≡ Some limit
   grown_limit limit n =
@@ -195,12 +196,12 @@ content_ordinary Doctype c e = cc
 content_ordinary Cut c e = cc
 
 -- what putting a node in answers, where a limit or none is passed
-pub put_done : (o : Option Limit) (r : Result ℕ PageError) (n : ℕ) → MatchOption (option_map dom_error o) (IsOkUnless r NoMemory) (λ e. r ≡ Err (error_of e)) → r ≡ Ok n → o ≡ None
+pub put_done : (o : Option Limit) (r : Result ℕ PageError) (n : ℕ) → MatchOption (option_map past_limit o) (IsOkUnless r NoMemory) (λ refusal. r ≡ Err (error_of (dom_error refusal))) → r ≡ Ok n → o ≡ None
 put_done None r n m e = refl
 put_done (Some TooDeep) r n m e = cc
 put_done (Some TooManyNodes) r n m e = cc
 
-pub put_failed : (o : Option Limit) (r : Result ℕ PageError) (f : PageError) → MatchOption (option_map dom_error o) (IsOkUnless r NoMemory) (λ e. r ≡ Err (error_of e)) → r ≡ Err f
+pub put_failed : (o : Option Limit) (r : Result ℕ PageError) (f : PageError) → MatchOption (option_map past_limit o) (IsOkUnless r NoMemory) (λ refusal. r ≡ Err (error_of (dom_error refusal))) → r ≡ Err f
     → (f ≡ NoMemory) ⊎ ((l : Limit) × (o ≡ Some l) × (f ≡ page_error l))
 put_failed None r f m e = inl (subst (λ x. IsOkUnless x NoMemory) e m)
 put_failed (Some TooDeep) r f m e = inr (TooDeep, refl, cc)

@@ -4,8 +4,9 @@ ghost use Rattle.std.specs.Prelude.{◌≡◌, ◌≤◌, ◌+◌, ◌++◌, ◌
 ghost use Rattle.std.specs.Str.{str_to_ascii_lowercase};
 ghost use Rattle.page_tree.specs.Fragments.{IsFragment, limit_passed, with_fragment};
 ghost use Rattle.dom_arena.specs.Contents.{new_content, new_nodes, single};
-ghost use Rattle.dom_arena.specs.Refusals.{append_refused};
-ghost use Rattle.page_tree.specs.Edits.{appended};
+ghost use Rattle.dom_arena.specs.Refusals.{error_of as dom_error};
+ghost use Rattle.page_tree.specs.Refusals.{graft_refused};
+ghost use Rattle.page_tree.specs.Edits.{appended, children_of};
 ghost use Rattle.page_tree.specs.Trees.{IsOrdinary};
 ghost use Rattle.html_meaning.specs.Page.{role_of, opened, content_of, fragment, page};
 ghost use Rattle.html_meaning.specs.References.{resolved};
@@ -234,7 +235,8 @@ fn error_of(error: DomError) -> PageError
 fn put(dom: &mut Dom, parent: u32, node: NewNode) -> Result<u32, PageError>
     requires number { dom.old.next < 4294967295 }
     requires ordinary { IsOrdinary (new_content node) }
-    ensures answer { MatchOption (append_refused parent dom.old) (IsOkUnless result PageError.NoMemory) (λ e. result ≡ Err (error_of e)) }
+    ensures answer { MatchOption (graft_refused parent (children_of parent dom.old) ((0, new_content node) ∷ []) dom.old)
+        (IsOkUnless result PageError.NoMemory) (λ refusal. result ≡ Err (error_of (dom_error refusal))) }
     ensures number { IfOk result (λ n. n ≡ dom.old.next) }
     ensures tree { OnOk result (dom.new ≡ appended parent (single dom.old.next node) dom.old) }
 {

@@ -2,6 +2,7 @@ use Rattle.std.proofs.Common.{◌≡◌, ◌≤◌, ◌+◌, ◌-◌, ◌++◌, 
 use Rattle.page_tree.specs.Forest.{Content, Tree, size}
 use Rattle.page_tree.specs.Fragments.{Limit, limit_passed}
 use Rattle.dom_arena.specs.Contents.{new_content}
+use Rattle.dom_arena.specs.Refusals.{error_of as dom_error}
 use Rattle.html_meaning.specs.Tokens.{Token}
 use Rattle.html_meaning.specs.Page.{role_of, opened, content_of, fragment}
 use Rattle.html_tokens.specs.Seen.{token_of}
@@ -53,7 +54,7 @@ returns-in_err-number-clause-answer c =
     let parent : c.innermost-parent.result ≡ slice_index (take left numbers) (length (take left numbers) - 1) =
     c.innermost-parent.ensures ∙ ap (λ ns. slice_index ns (length ns - 1)) (c.as_slice.ensures.value ∙ c.truncate-in-Some.ensures.items) in
     let refused = grown_refusal names numbers t c.next.new.self old source left c.innermost-parent.result made grown c.left_by-left.ensures.left c.left_by-left.ensures.within content parent in
-    let answer = subst (λ d. MatchOption d (IsOkUnless c.put.result NoMemory) (λ e. c.put.result ≡ Err (error_of e))) refused c.put.ensures.answer in
+    let answer = subst (λ d. MatchOption d (IsOkUnless c.put.result NoMemory) (λ refusal. c.put.result ≡ Err (error_of (dom_error refusal)))) refused c.put.ensures.answer in
     let passes : (l : Limit) → o ≡ Some l → limit ≡ Some l =
     grown_limit names numbers t c.next.new.self old source left c.innermost-parent.result made grown c.left_by-left.ensures.left c.left_by-left.ensures.within content parent in
     let failed = failed_so limit o error passes (put_failed o c.put.result error answer c.in_err-number.was) in
@@ -76,7 +77,7 @@ loop-token-preserved-in-Continue-branch-6 c =
     let parent : c.innermost-parent.result ≡ slice_index (take left numbers) (length (take left numbers) - 1) =
     c.innermost-parent.ensures ∙ ap (λ ns. slice_index ns (length ns - 1)) (c.as_slice.ensures.value ∙ c.truncate-in-Some.ensures.items) in
     let refused = grown_refusal names numbers t c.next.new.self old source left c.innermost-parent.result made grown c.left_by-left.ensures.left c.left_by-left.ensures.within content parent in
-    let answer = subst (λ d. MatchOption d (IsOkUnless c.put.result NoMemory) (λ e. c.put.result ≡ Err (error_of e))) refused c.put.ensures.answer in
+    let answer = subst (λ d. MatchOption d (IsOkUnless c.put.result NoMemory) (λ refusal. c.put.result ≡ Err (error_of (dom_error refusal)))) refused c.put.ensures.answer in
     let none : o ≡ None = put_done o c.put.result c.in_ok-number.number answer c.in_ok-number.was in
     let after : (n : ℕ) → c.open_element.new.chain ≡ take left names ++ element_names (opened n role) =
     λ n. c.in_ok-open_element.ensures n ∙ ap (λ x. x ++ element_names (opened n role)) c.truncate.ensures in
