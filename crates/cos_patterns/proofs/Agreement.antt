@@ -93,3 +93,7 @@ unless_by (Ok number) P ok bad large = ok
 unless_by (Err BadPattern) P ok bad large = bad refl
 unless_by (Err PatternTooLarge) P ok bad large = large refl
 unless_by (Err errors.NoMemory) P ok bad large = tt
+
+-- a pattern that has a number is noted
+pub held_noted : (pattern : Written) (table : Noted) (number : ℕ) → place_of pattern table.patterns ≡ Some number → is_noted pattern table ≡ false → ⊥
+held_noted pattern table number is new = let no : true ≡ false = sym (is_held pattern table.patterns number is) ∙ (not_noted pattern table new).0 in cc

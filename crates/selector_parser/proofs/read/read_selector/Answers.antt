@@ -26,31 +26,7 @@ with_numbers-requires g c =
     let is = sym c.in_ok-chains.ensures ∙ c.in-Ok.is in
     read_unasked c.put_asks.new.table.patterns c.args.text.now c.in-Ok.chains (pieces_read c.args.text.now c.in-Ok.chains is)
 
--- a pattern is refused
-pub returns-in-Some-clause-answer : goal.returns-in-Some-clause-answer
-returns-in-Some-clause-answer g c =
-    let large = g.M.Maker.large c.put_asks.new.maker in
-    let unread = g.M.Maker.unread c.put_asks.new.maker in
-    let table = c.put_asks.new.table in
-    let is = sym c.in_ok-chains.ensures ∙ c.in-Ok.is in
-    let refused = c.in_ok-finding.ensures.answer table large unread (extends_self table) c.put_asks.ensures.agrees in
-    ap unnumbered_read c.refused-in-Some.ensures
-    ∙ by_refusal large unread c.args.text.now c.in-Ok.chains is c.in-Some.finding
-    (sym c.in-Some.is ∙ refused ∙ ap (first_refused (answer_by large unread)) c.as_slice.ensures)
-
--- all patterns are found
-pub returns-in_ok-selector-in-None-clause-answer : goal.returns-in_ok-selector-in-None-clause-answer
-returns-in_ok-selector-in-None-clause-answer g c =
-    let large = g.M.Maker.large c.put_asks.new.maker in
-    let unread = g.M.Maker.unread c.put_asks.new.maker in
-    let table = c.put_asks.new.table in
-    let is = sym c.in_ok-chains.ensures ∙ c.in-Ok.is in
-    let found = c.in_ok-finding.ensures.answer table large unread (extends_self table) c.put_asks.ensures.agrees in
-    rw (c.in_ok-selector-in-None.ensures, c.action_of-action.ensures)
-    (by_filter large unread c.args.text.now c.in-Ok.chains is table.patterns
-    (sym c.in-None.is ∙ found ∙ ap (first_refused (answer_by large unread)) c.as_slice.ensures))
-
--- and go on being found
+-- all patterns are found, and go on being found
 pub returns-in_ok-selector-in-None-clause-lasting : goal.returns-in_ok-selector-in-None-clause-lasting
 returns-in_ok-selector-in-None-clause-lasting g c = λ later large unread extends agrees.
     let is = sym c.in_ok-chains.ensures ∙ c.in-Ok.is in
@@ -81,8 +57,16 @@ returns-in-Err-clause-within g c =
 
 pub returns-in-Some-clause-within : goal.returns-in-Some-clause-within
 returns-in-Some-clause-within g c =
-    place_by (length c.args.text.now) (g.M.Maker.large c.put_asks.new.maker) (g.M.Maker.unread c.put_asks.new.maker) c.args.text.now c.refused-in-Some.result
-    (returns-in-Some-clause-answer g c) (omega arith)
+    let large = g.M.Maker.large c.put_asks.new.maker in
+    let unread = g.M.Maker.unread c.put_asks.new.maker in
+    let table = c.put_asks.new.table in
+    let is = sym c.in_ok-chains.ensures ∙ c.in-Ok.is in
+    let refused = c.in_ok-finding.ensures.answer table large unread (extends_self table) c.put_asks.ensures.agrees in
+    place_by (length c.args.text.now) large unread c.args.text.now c.refused-in-Some.result
+    (ap unnumbered_read c.refused-in-Some.ensures
+    ∙ by_refusal large unread c.args.text.now c.in-Ok.chains is c.in-Some.finding
+    (sym c.in-Some.is ∙ refused ∙ ap (first_refused (answer_by large unread)) c.as_slice.ensures))
+    (omega arith)
 
 -- ---- what is asked for
 

@@ -1,5 +1,5 @@
 use Rattle.cos_patterns.specs.Written.{written}
-use Rattle.cos_patterns.proofs.Agreement.{put_again, is_held, held_by, unless_by}
+use Rattle.cos_patterns.proofs.Agreement.{put_again, is_held, held_by, held_noted, unless_by}
 use Rattle.cos_patterns.proofs.Extensions.{put_extends}
 use Rattle.cos_patterns.proofs.table.PatternTable.put.Goals as goal
 
@@ -16,6 +16,10 @@ returns-in-Nothing-clause-stays g c =
 
 pub returns-in-Nothing-clause-asked_new : goal.returns-in-Nothing-clause-asked_new
 returns-in-Nothing-clause-asked_new g c = λ _. unless_by c.ask.result _ c.ask.ensures.asked c.ask.ensures.asked_bad c.ask.ensures.asked_large
+
+pub returns-in-Held-clause-asked_new : goal.returns-in-Held-clause-asked_new
+returns-in-Held-clause-asked_new g c = λ new.
+    absurd (held_noted (written c.args.text.now c.args.flags) c.args.self.now c.in-Held.number c.in-Held.ensures.0 new)
 
 -- the table holds what has a number
 pub returns-in-Nothing-clause-held : goal.returns-in-Nothing-clause-held
