@@ -134,27 +134,27 @@ module _ {Maker : Type 0} (asks : Maker → Asked → Maker → Type 0) (key : W
     (others : (other : Written) → is_same key other ≡ false → said_of other after ≡ said_of other table) where
   pattern_by : (is_held : Bool) (with_it without : List Written) → is_in key after.patterns ≡ is_held →
       after.patterns ≡ (if is_held then with_it else without) → after.patterns ≡ (if is_in key after.patterns then with_it else without)
-  pattern_by is_held with_it without held is = is ∙ sym (ap (λ (c : Bool). if c then with_it else without) held)
+  pattern_by is_held with_it without same is = is ∙ sym (ap (λ (c : Bool). if c then with_it else without) same)
 
   pub puts_by : (result : Result ℕ PatternError) → (is_noted key table ≡ false → UnlessNoMemory result (asks maker (Pattern key) now)) →
       is_in key after.patterns ≡ is_ok result → OnOk result (after.patterns ≡ with_pattern key table.patterns) → OnErr result (after.patterns ≡ table.patterns) →
       UnlessNoMemory result (Puts asks key table maker after now)
-  puts_by (Ok number) new held ok err = record {
+  puts_by (Ok number) new same ok err = record {
     noted = λ h. (kept h, once h);
     new = new;
-    patterns = pattern_by true (with_pattern key table.patterns) table.patterns held ok;
+    patterns = pattern_by true (with_pattern key table.patterns) table.patterns same ok;
     others = others;
   }
-  puts_by (Err BadPattern) new held ok err = record {
+  puts_by (Err BadPattern) new same ok err = record {
     noted = λ h. (kept h, once h);
     new = new;
-    patterns = pattern_by false (with_pattern key table.patterns) table.patterns held err;
+    patterns = pattern_by false (with_pattern key table.patterns) table.patterns same err;
     others = others;
   }
-  puts_by (Err PatternTooLarge) new held ok err = record {
+  puts_by (Err PatternTooLarge) new same ok err = record {
     noted = λ h. (kept h, once h);
     new = new;
-    patterns = pattern_by false (with_pattern key table.patterns) table.patterns held err;
+    patterns = pattern_by false (with_pattern key table.patterns) table.patterns same err;
     others = others;
   }
-  puts_by (Err errors.NoMemory) new held ok err = tt
+  puts_by (Err errors.NoMemory) new same ok err = tt

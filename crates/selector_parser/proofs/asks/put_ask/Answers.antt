@@ -29,7 +29,7 @@ returns-in-Ok-clause-asked g c =
     let put = c.put.ensures in
     let flags = c.args.ask.now.flags in
     let puts = puts_by g.M.Maker.asks (written c.as_str-2.result.now flags) c.args.table.now c.put.new.self c.args.maker.now c.put.new.maker
-        put.kept put.asked_once put.others c.put.result put.asked_new put.held put.patterns put.refused in
+    put.kept put.asked_once put.others c.put.result put.asked_new put.held put.patterns put.refused in
     let at_body = λ (body : Bytes). Puts g.M.Maker.asks (written body flags) c.args.table.now c.args.maker.now c.put.new.self c.put.new.maker in
     subst at_body c.as_str-2.ensures (rw c.in-Ok.is at puts)
 
@@ -38,7 +38,7 @@ returns-in-Err-BadPattern-clause-asked g c =
     let put = c.put.ensures in
     let flags = c.args.ask.now.flags in
     let puts = puts_by g.M.Maker.asks (written c.as_str-2.result.now flags) c.args.table.now c.put.new.self c.args.maker.now c.put.new.maker
-        put.kept put.asked_once put.others c.put.result put.asked_new put.held put.patterns put.refused in
+    put.kept put.asked_once put.others c.put.result put.asked_new put.held put.patterns put.refused in
     let at_body = λ (body : Bytes). Puts g.M.Maker.asks (written body flags) c.args.table.now c.args.maker.now c.put.new.self c.put.new.maker in
     subst at_body c.as_str-2.ensures (rw (c.in-Err-BadPattern.is, c.in-Err-BadPattern.field-0-is) at puts)
 
@@ -47,6 +47,6 @@ returns-in-Err-PatternTooLarge-clause-asked g c =
     let put = c.put.ensures in
     let flags = c.args.ask.now.flags in
     let puts = puts_by g.M.Maker.asks (written c.as_str-2.result.now flags) c.args.table.now c.put.new.self c.args.maker.now c.put.new.maker
-        put.kept put.asked_once put.others c.put.result put.asked_new put.held put.patterns put.refused in
+    put.kept put.asked_once put.others c.put.result put.asked_new put.held put.patterns put.refused in
     let at_body = λ (body : Bytes). Puts g.M.Maker.asks (written body flags) c.args.table.now c.args.maker.now c.put.new.self c.put.new.maker in
     subst at_body c.as_str-2.ensures (rw (c.in-Err-PatternTooLarge.is, c.in-Err-PatternTooLarge.field-0-is) at puts)
