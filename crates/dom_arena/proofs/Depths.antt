@@ -3,13 +3,13 @@ use Rattle.std.proofs.Common.{◌≡◌, ℕ, suc, ◌+◌, ◌<◌, ◌≤◌, 
 use Rattle.std.proofs.lemmas.Bool.{cases_eq}
 use Rattle.std.specs.Prelude.{unwrap_or}
 use Rattle.page_tree.specs.Forest.{Forest, empty, node, rooted, count, or_some, depth_in, height}
+use Rattle.page_tree.proofs.Finding.{same_cases, same-same, same-eq}
+use Rattle.page_tree.proofs.Depths.{depth_in-none}
 use Rattle.dom_arena.specs.declared.table.Slot.{Slot}
 use Rattle.dom_arena.specs.Slots.{slot_at, IsUsed}
 use Rattle.dom_arena.specs.Linked.{Linked, Stands}
-use Rattle.dom_arena.proofs.Links.{same_cases, stands_used}
-use Rattle.dom_arena.proofs.Siblings.{same-same, same-eq}
+use Rattle.dom_arena.proofs.Links.{stands_used}
 use Rattle.dom_arena.proofs.Family.{counted_used}
-use Rattle.dom_arena.proofs.Heights.{depth_in-none}
 
 -- a node is at the top, or one deeper than its parent
 pub depth_step : (s : ℕ → Slot) (k : ℕ) (f : Forest) (p b d : ℕ) → Linked s p b f → ((j : ℕ) → count j f ≤ 1) → count p f ≡ 0 → 0 < count k f

@@ -63,7 +63,7 @@ module _ (s : ℕ → Slot) (n : ℕ) where
   not_parent (node m (comment bytes) kids later) h f = refl
 
   -- the others may have some
-  is_parent : (g : Forest) → IsCell s n g → may_hold (s n).payload ≡ true → parent_among n g ≡ None
+  pub is_parent : (g : Forest) → IsCell s n g → may_hold (s n).payload ≡ true → parent_among n g ≡ None
   is_parent empty h t = absurd h
   is_parent (node m document kids later) h t = refl
   is_parent (node m (element name attrs) kids later) h t = refl
