@@ -1,13 +1,13 @@
 -- The node behind another and all below it in document order.
-use Rattle.std.proofs.Common.{◌≡◌, ℕ, ◌+◌, ◌<◌, ◌≤◌, [], ◌++◌, Option, None, refl, sym, ◌∙◌, ap, inl, inr, arith}
-use Rattle.std.proofs.lemmas.Bool.{cases_eq, eq-eqb, ne_eqb}
+use Rattle.std.proofs.Common.{◌≡◌, ℕ, ◌<◌, [], Option, None, refl, sym, ◌∙◌, ap, inl, inr, arith}
+use Rattle.std.proofs.lemmas.Bool.{cases_eq}
 use Rattle.std.proofs.lemmas.List.{append-nil}
-use Rattle.page_tree.specs.Forest.{Forest, empty, node, count, numbers, first, find, children, or_some, behind}
+use Rattle.page_tree.specs.Forest.{Forest, empty, node, count, numbers, first, or_some, behind}
 use Rattle.page_tree.specs.Edits.{with_children, behind_subtree}
 use Rattle.page_tree.proofs.Finding.{same_cases, count-below_itself}
 use Rattle.page_tree.proofs.Totals.{with_children-none, count-with_children}
 use Rattle.page_tree.proofs.Regrafts.{children-given}
-use Rattle.page_tree.proofs.Below.{beyond, beyond-same, beyond-kids, beyond-later, behind-skip, behind-numbers}
+use Rattle.page_tree.proofs.Below.{beyond, beyond-kids, beyond-later, behind-skip, behind-numbers}
 
 -- children make no difference to what is beyond a node
 beyond-childless : (k : ℕ) (f : Forest) (rest : Option ℕ) → count k f ≡ 1 → beyond k (with_children k empty f) rest ≡ beyond k f rest

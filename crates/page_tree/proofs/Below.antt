@@ -2,7 +2,7 @@
 use Rattle.std.proofs.Common.{◌≡◌, ℕ, suc, ◌<◌, ◌≤◌, cond, eqb, List, [], ◌∷◌, ◌++◌, Option, Some, None, refl, sym, ◌∙◌, ap, inl, inr, ◌⊎◌, arith, append_assoc}
 use Rattle.std.proofs.lemmas.Bool.{cases_eq, eq-eqb, ne_eqb}
 use Rattle.std.proofs.lemmas.List.{append-nil}
-use Rattle.page_tree.specs.Forest.{Content, document, Forest, empty, node, same, count, numbers, first, find, or_else, children, later_of, or_some, first_in, behind, parent_in, depth_in}
+use Rattle.page_tree.specs.Forest.{Content, document, Forest, empty, node, count, numbers, first, find, children, later_of, or_some, first_in, behind, parent_in, depth_in}
 use Rattle.page_tree.proofs.Finding.{same_cases, same-eq, find-none, find-counted, find-first, find-below, find-behind, found, count-find}
 use Rattle.page_tree.proofs.Depths.{depth_in-none}
 use Rattle.page_tree.proofs.Around.{counted_first, where_is, parent_in-below, parent_in-behind}

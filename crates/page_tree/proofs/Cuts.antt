@@ -1,11 +1,11 @@
 -- Forests without some nodes: taking out, putting in and moving are the same notion.
 use Rattle.std.proofs.Common.{◌≡◌, ℕ, zero, suc, ◌+◌, ◌<◌, ◌≤◌, ◌==◌, true, false, refl, sym, ◌∙◌, ap, inl, inr, arith}
-use Rattle.std.proofs.lemmas.Bool.{cases_eq, cases_Bool, eq-eqb, ne_eqb, both_ways}
+use Rattle.std.proofs.lemmas.Bool.{cases_eq, cases_Bool, eq-eqb, ne_eqb}
 use Rattle.std.specs.Prelude.{Bool, not}
-use Rattle.page_tree.specs.Forest.{Content, document, Forest, empty, node, Tree, rooted, same, count, find, or_else, children}
+use Rattle.page_tree.specs.Forest.{document, Forest, empty, node, Tree, rooted, same, count, find, children}
 use Rattle.page_tree.specs.Edits.{joined, insert_at, with_children, without, pruned, alone, subtree, grafted, moved}
-use Rattle.page_tree.proofs.Finding.{same_cases, same-same, find-none, find-counted, find-first, count-find}
-use Rattle.page_tree.proofs.Totals.{with_children-none, without-none, count-without}
+use Rattle.page_tree.proofs.Finding.{same_cases, same-same, find-none, find-counted, count-find}
+use Rattle.page_tree.proofs.Totals.{with_children-none, count-without}
 
 module _ (gone : ℕ → Bool) where
   -- where no node is named all stays, and where all are named nothing

@@ -4,7 +4,7 @@ use Rattle.std.proofs.lemmas.Bool.{cases_eq, cases_Bool}
 use Rattle.std.specs.Prelude.{Bool}
 use Rattle.page_tree.specs.Forest.{Content, Forest, empty, node, count, find, children, or_some, depth_in, height}
 use Rattle.page_tree.specs.Edits.{joined, insert_at, with_children, with_content, without, pruned, subtree, grafted}
-use Rattle.page_tree.proofs.Finding.{same_cases, find-none, find-counted, found}
+use Rattle.page_tree.proofs.Finding.{same_cases, find-none, find-counted}
 use Rattle.page_tree.proofs.Totals.{with_children-none, without-none}
 
 -- no second choice
@@ -37,6 +37,20 @@ depth_in-some k d (node n c kids later) h =
             (r.0, here ∙ ap (λ (o : Option ℕ). or_some o (depth_in k d later)) r.1)
       ]
     ]
+
+-- no node is deeper than the forest is high
+pub depth_in-height : (k d e : ℕ) (f : Forest) → depth_in k d f ≡ Some e → e < d + height f
+depth_in-height k d e empty h = cc
+depth_in-height k d e (node n c kids later) h =
+    elim (same_cases k n) [
+      | inl q ↦ let x : Some d ≡ Some e = rw q.2 at h in let y : d ≡ e = cc (x) in omega arith
+      | inr q ↦ by_part (λ m. depth_in-height k (suc d) m kids) (depth_in-height k d e later) (depth_in k (suc d) kids) refl (rw q.2 at h)
+    ]
+  where
+    by_part : ((m : ℕ) → depth_in k (suc d) kids ≡ Some m → m < suc d + height kids) → (depth_in k d later ≡ Some e → e < d + height later)
+        → (o : Option ℕ) → depth_in k (suc d) kids ≡ o → or_some o (depth_in k d later) ≡ Some e → e < d + max (suc (height kids)) (height later)
+    by_part below behind None x y = omega (arith, behind y)
+    by_part below behind (Some m) x y = let z : m ≡ e = cc (y) in omega (arith, below m x)
 
 -- ---- nodes put in
 

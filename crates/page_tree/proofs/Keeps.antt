@@ -1,17 +1,16 @@
 -- What every tree keeps, kept by each change.
-use Rattle.std.proofs.Common.{◌≡◌, ℕ, zero, suc, ◌+◌, ◌<◌, ◌≤◌, true, false, List, Option, Some, None, refl, sym, ◌∙◌, ap, subst, inl, inr, arith}
+use Rattle.std.proofs.Common.{◌≡◌, ℕ, zero, suc, ◌+◌, ◌<◌, ◌≤◌, List, Option, Some, None, refl, sym, ◌∙◌, ap, subst, inl, inr, arith}
 use Rattle.std.proofs.lemmas.Bool.{cases_eq, cases_lt, cases_Bool, eq-eqb, lt-ltb, ne_eqb}
 use Rattle.std.specs.Prelude.{Bool}
 use Rattle.std.specs.Option.{option_or}
-use Rattle.page_tree.specs.Forest.{Content, document, element, text, comment, Forest, empty, node, Tree, rooted, same, count, size, height, find, or_else, children, depth_in}
+use Rattle.page_tree.specs.Forest.{Content, document, element, text, comment, Forest, empty, node, Tree, rooted, count, size, height, find, or_else, children, depth_in}
 use Rattle.page_tree.specs.Edits.{joined, insert_at, with_children, with_content, without, pruned, alone, subtree, grafted, children_of, detached, moved, rewritten, with_text}
 use Rattle.page_tree.specs.Refusals.{Refusal, NoSuchNode, NotElement, NotText, IsDocument, IntoItself, TooDeep, node_among, text_among, parent_among, document_refused, parent_refused, place_past, into_itself, too_deep, text_refused, detach_refused, relink_refused}
 use Rattle.page_tree.specs.Trees.{Every, MayHave, IsGrown, IsOrdinary, AreOrdinary, IsTree}
-use Rattle.page_tree.specs.declared.TheConstants.{NODE_LIMIT, DEPTH_LIMIT}
-use Rattle.page_tree.proofs.Finding.{same_cases, same-same, same-eq, find-none, find-counted, find-rooted, found, count-find}
+use Rattle.page_tree.proofs.Finding.{same_cases, find-none, find-counted, find-rooted, found, count-find}
 use Rattle.page_tree.proofs.Totals.{with_children-none, with_content-none, without-none, count-grafted, count-with_content, count-without, count-pruned, size-grafted, size-with_content, size-without, size-pruned}
 use Rattle.page_tree.proofs.Depths.{depth_in-some, depth_in-without, height-grafted, height-with_content, height-without, height-pruned}
-use Rattle.page_tree.proofs.Cuts.{count-subtree, count-subtree-le}
+use Rattle.page_tree.proofs.Cuts.{count-subtree}
 
 -- what the first node and its children meet, if there is one
 abbrev pub AtFirst : (Content → Forest → Type 0) → Forest → Type 0
@@ -122,7 +121,8 @@ at_first Meets all (node n c kids later) = all c kids
 
 -- ---- what is found where a change is not refused
 
-no_refusal : (a b : Option Refusal) → option_or a b ≡ None → (a ≡ None) × (b ≡ None)
+-- two causes, none of which holds
+pub no_refusal : (a b : Option Refusal) → option_or a b ≡ None → (a ≡ None) × (b ≡ None)
 no_refusal None b h = (refl, h)
 no_refusal (Some x) b h = let no : Some x ≡ None = h in cc
 

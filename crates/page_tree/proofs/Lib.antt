@@ -4,11 +4,13 @@ pub mod Totals
 pub mod Depths
 pub mod Cuts
 pub mod Keeps
+pub mod Fragments
 pub mod Elements
 pub mod Around
 pub mod Parts
 pub mod Below
 pub mod Regrafts
 pub mod Behind
+pub mod Found
 pub mod Walk
 pub mod Sides

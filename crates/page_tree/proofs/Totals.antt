@@ -1,6 +1,6 @@
 -- Sums over the nodes of a forest after each change. How often a number stands there and how many nodes there are are such
 -- sums.
-use Rattle.std.proofs.Common.{◌≡◌, ℕ, zero, suc, ◌+◌, ◌≤◌, true, false, refl, ap, inl, inr, arith}
+use Rattle.std.proofs.Common.{◌≡◌, ℕ, zero, suc, ◌+◌, ◌≤◌, refl, inl, inr, arith}
 use Rattle.std.proofs.lemmas.Bool.{cases_eq, cases_Bool}
 use Rattle.std.specs.Prelude.{Bool, length}
 use Rattle.page_tree.specs.Forest.{Content, Forest, empty, node, same, count, size, tops, find, children}
