@@ -2,7 +2,7 @@
 use Rattle.std.proofs.Common.{◌≡◌, ℕ, suc, ◌+◌, ◌<◌, ◌≤◌, List, length, refl, sym, ◌∙◌, ap, subst, inl, inr, arith, length-set}
 use Rattle.std.proofs.lemmas.Bool.{cases_eq, ne_eqb}
 use Rattle.page_tree.specs.Forest.{Forest, empty, node, rooted, same, count, size, head, find, children}
-use Rattle.page_tree.specs.Edits.{with_children, without, alone, subtree}
+use Rattle.page_tree.specs.Edits.{without, alone, subtree}
 use Rattle.page_tree.specs.Trees.{IsTree, MayHave, AreOrdinary}
 use Rattle.page_tree.proofs.Totals.{count-without, size-without}
 use Rattle.page_tree.proofs.Keeps.{Named, Every-find, Every-children, IsTree-detached}

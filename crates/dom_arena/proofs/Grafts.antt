@@ -1,16 +1,13 @@
 -- New children of a node, in the forest and in the slots.
-use Rattle.std.proofs.Common.{◌≡◌, ℕ, zero, suc, ◌+◌, ◌<◌, ◌≤◌, List, length, set, refl, sym, ◌∙◌, ap, subst, inl, inr, arith}
+use Rattle.std.proofs.Common.{◌≡◌, ℕ, zero, suc, ◌<◌, ◌≤◌, List, length, set, refl, sym, ◌∙◌, ap, subst, inl, inr, arith}
 use Rattle.std.proofs.lemmas.Bool.{cases_eq}
 use Rattle.std.proofs.lemmas.List.{get_or-set_same, get_or-set_other}
-use Rattle.page_tree.specs.Forest.{Content, document, element, text, comment, Forest, empty, node, rooted, count, size, head, tops, find, or_else, children}
-use Rattle.page_tree.specs.Edits.{joined, insert_at, with_children}
-use Rattle.page_tree.specs.Trees.{MayHave, IsGrown}
-use Rattle.page_tree.proofs.Finding.{same_cases, find-none, same-same, same-eq}
+use Rattle.page_tree.specs.Forest.{Content, document, Forest, empty, node, rooted, count, head, tops}
+use Rattle.page_tree.specs.Edits.{with_children}
+use Rattle.page_tree.proofs.Finding.{same_cases, same-same, same-eq}
 use Rattle.dom_arena.specs.declared.table.Slot.{Slot}
-use Rattle.dom_arena.specs.Contents.{payload_of}
 use Rattle.dom_arena.specs.Slots.{free, cell, slot_at, last_behind, last}
 use Rattle.dom_arena.specs.Linked.{Linked, from_place, before_place}
-use Rattle.dom_arena.proofs.Links.{IsCell, IsCell-find}
 
 -- new children below change neither the first number nor the last
 pub head-with_children : (p : ℕ) (g f : Forest) → head (with_children p g f) ≡ head f
@@ -25,11 +22,6 @@ last_behind-with_children p b g (node n c kids later) = last_behind-with_childre
 -- new children further below change no slot of a node
 cell-with_children : (p : ℕ) (g : Forest) (parent : ℕ) (kids : Forest) (next previous : ℕ) (c : Content) → cell parent (with_children p g kids) next previous c ≡ cell parent kids next previous c
 cell-with_children p g parent kids next previous c = rw (head-with_children p g kids, last_behind-with_children p 0 g kids) refl
-
--- what was found is not looked for further on
-pub find-some : (s : ℕ → Slot) (k : ℕ) (f g : Forest) → IsCell s k f → or_else f g ≡ f
-find-some s k empty g h = absurd h
-find-some s k (node n c kids later) g h = refl
 
 -- slots that differ in a node's first child, and hold its new children
 pub Linked-with_children : (s s' : ℕ → Slot) (p : ℕ) (g f : Forest) (parent previous : ℕ) → Linked s parent previous f → (parent ≡ p → ⊥)

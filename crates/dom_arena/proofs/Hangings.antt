@@ -10,6 +10,7 @@ use Rattle.page_tree.proofs.Finding.{same_cases, count-find, count-parts, same-e
 use Rattle.page_tree.proofs.Totals.{count-with_children, count-insert}
 use Rattle.page_tree.proofs.Regrafts.{with_children-again, children-given, find-given, with_children-given, children-inserted, with_children-inserted, insert-behind, insert-end}
 use Rattle.page_tree.proofs.Depths.{depth_in-given}
+use Rattle.page_tree.proofs.Fragments.{limits_kept}
 use Rattle.dom_arena.specs.declared.fragments.Tail.{Tail}
 use Rattle.dom_arena.specs.declared.table.Slot.{Slot}
 use Rattle.dom_arena.specs.Contents.{payload_of, may_hold}
@@ -23,7 +24,6 @@ use Rattle.dom_arena.proofs.Writes.{payload-put, length-placed}
 use Rattle.dom_arena.proofs.Added.{Stands-put, total, size_nodes, before_place-end, from_place-end}
 use Rattle.dom_arena.proofs.Regrafts.{before-behind, from-behind, tops-inserted}
 use Rattle.dom_arena.proofs.Ways.{OnWay, way_at, Under, Under-linked, Under-insert, OnWay-less, way_counts, way_parent, way_holds, climbed-way, hangs, OnWay-hung, way_at-hung, OnWay-more, way_at-more, last_top-joined, last_top-hung}
-use Rattle.dom_arena.proofs.Limits.{limits_kept}
 
 -- what may have children is a node
 holds_used : (slots : List Slot) (k : ℕ) → may_hold (slot_at slots k).payload ≡ true → IsUsed slots k

@@ -1,8 +1,8 @@
 -- What the slots that stand for a forest say of a node of it.
-use Rattle.std.proofs.Common.{◌≡◌, ℕ, zero, suc, ◌+◌, ◌<◌, ◌≤◌, cond, eqb, true, false, List, Option, Some, None, length, refl, sym, ◌∙◌, ap, subst, inl, inr, ◌⊎◌, arith}
-use Rattle.std.proofs.lemmas.Bool.{cases_eq, cases_lt, eq-eqb, ne_eqb}
+use Rattle.std.proofs.Common.{◌≡◌, ℕ, zero, suc, ◌<◌, ◌≤◌, cond, List, Some, None, length, refl, sym, ◌∙◌, ap, subst, inl, inr, arith}
+use Rattle.std.proofs.lemmas.Bool.{cases_eq, cases_lt, ne_eqb}
 use Rattle.std.proofs.lemmas.List.{get_or_past}
-use Rattle.page_tree.specs.Forest.{Content, document, element, text, comment, Forest, empty, node, rooted, same, count, size, head, first, find, or_else, children, later_of, content, or_some, parent_in, previous_in}
+use Rattle.page_tree.specs.Forest.{Content, document, element, text, comment, Forest, empty, node, rooted, count, size, head, first, find, or_else, children, later_of, content, parent_in, previous_in}
 use Rattle.page_tree.proofs.Finding.{same_cases, find-none, or_else-empty, count-find, count-parts}
 use Rattle.page_tree.proofs.Depths.{or_none}
 use Rattle.page_tree.proofs.Around.{parent_in-none, previous_in-none}

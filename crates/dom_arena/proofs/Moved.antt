@@ -1,18 +1,18 @@
 -- A node moved with all that is below it: where it may go, and what the slots stand for then.
-use Rattle.std.proofs.Common.{◌≡◌, ℕ, suc, ◌+◌, ◌<◌, ◌≤◌, List, Some, None, true, false, length, refl, sym, ◌∙◌, ap, subst, inl, inr, ◌⊎◌, arith}
-use Rattle.std.proofs.lemmas.Bool.{cases_eq, ne_eqb}
-use Rattle.page_tree.specs.Forest.{Content, document, Forest, empty, node, Tree, rooted, same, count, size, height, head, tops, find, or_else, children, depth_in}
+use Rattle.std.proofs.Common.{◌≡◌, ℕ, suc, ◌+◌, ◌<◌, ◌≤◌, List, Some, true, length, refl, sym, ◌∙◌, ap, subst, inl, inr, arith}
+use Rattle.std.proofs.lemmas.Bool.{cases_eq}
+use Rattle.page_tree.specs.Forest.{Content, Forest, empty, node, Tree, rooted, same, count, size, height, head, tops, find, children, depth_in}
 use Rattle.page_tree.specs.Edits.{insert_at, with_children, without, subtree, alone, moved}
 use Rattle.page_tree.specs.Trees.{MayHave, IsGrown, IsOrdinary, AreOrdinary}
-use Rattle.page_tree.proofs.Finding.{find-rooted, same_cases, count-find, count-parts, or_else-empty, same-eq, counted_apart}
+use Rattle.page_tree.proofs.Finding.{find-rooted, same_cases, count-find, count-parts, same-eq}
 use Rattle.dom_arena.specs.declared.table.Slot.{Slot}
 use Rattle.dom_arena.specs.Contents.{payload_of, content_of, may_hold}
 use Rattle.dom_arena.specs.Slots.{slot_at, IsUsed, last, cell, with_link, past, placed}
-use Rattle.dom_arena.specs.Linked.{Linked, Stands, IsArena, tree_of, kids_of, forest_of, from_place, before_place}
+use Rattle.dom_arena.specs.Linked.{Stands, IsArena, tree_of, kids_of, from_place, before_place}
 use Rattle.dom_arena.specs.Moves.{CanMove}
 use Rattle.dom_arena.specs.Parts.{part_from, HoldPart}
 use Rattle.dom_arena.proofs.Parting.{part_from-linked}
-use Rattle.dom_arena.proofs.Links.{forest_of-linked, content_of-payload_of, stands_used, no_zero, IsCell, IsCell-find}
+use Rattle.dom_arena.proofs.Links.{content_of-payload_of, stands_used, no_zero, IsCell, IsCell-find}
 use Rattle.dom_arena.proofs.Siblings.{before_place-in, from_place-in}
 use Rattle.dom_arena.proofs.Family.{Family, family, found_node, counted_used}
 use Rattle.page_tree.proofs.Keeps.{Named, Every-find}

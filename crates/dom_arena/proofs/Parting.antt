@@ -2,8 +2,8 @@
 use Rattle.std.proofs.Common.{◌≡◌, ℕ, ◌+◌, ◌<◌, ◌≤◌, max, List, length, set, refl, sym, ◌∙◌, ap, subst, inl, inr, arith, length-set}
 use Rattle.std.proofs.lemmas.Bool.{cases_eq, cases_lt}
 use Rattle.std.proofs.lemmas.List.{get_or_past}
-use Rattle.page_tree.specs.Forest.{Content, Forest, empty, node, same, count, size, height, head}
-use Rattle.page_tree.proofs.Finding.{same_cases, same-same, same-eq, counted_apart}
+use Rattle.page_tree.specs.Forest.{Forest, empty, node, same, count, size, height, head}
+use Rattle.page_tree.proofs.Finding.{same_cases, same-eq}
 use Rattle.dom_arena.specs.declared.table.Slot.{Slot}
 use Rattle.dom_arena.specs.Slots.{free, slot_at, cell}
 use Rattle.dom_arena.specs.Linked.{Linked, forest_of}

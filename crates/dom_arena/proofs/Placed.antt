@@ -1,12 +1,11 @@
 -- The slots with a node linked in, and all that is below it, stand for the tree with it.
 use Rattle.std.proofs.Common.{◌≡◌, ℕ, zero, suc, ◌+◌, ◌<◌, ◌≤◌, List, Some, None, true, length, refl, sym, ◌∙◌, ap, subst, inl, inr, arith}
 use Rattle.std.proofs.lemmas.Bool.{cases_lt}
-use Rattle.page_tree.specs.Forest.{Content, Forest, empty, node, Tree, rooted, same, count, size, height, depth_in, head, tops, find, or_else, children}
+use Rattle.page_tree.specs.Forest.{Content, Forest, empty, node, Tree, rooted, same, count, size, height, depth_in, head, tops, find, children}
 use Rattle.page_tree.specs.Edits.{insert_at, with_children}
 use Rattle.page_tree.specs.Trees.{IsTree, MayHave, IsGrown, IsOrdinary, AreOrdinary}
-use Rattle.page_tree.proofs.Finding.{same_cases, count-find, count-parts, same-same, same-eq, counted_apart}
-use Rattle.page_tree.proofs.Totals.{count-with_children, count-insert, size-with_children, size-insert}
-use Rattle.page_tree.proofs.Depths.{heights, height-insert}
+use Rattle.page_tree.proofs.Finding.{count-find, count-parts, same-same, same-eq, counted_apart}
+use Rattle.page_tree.proofs.Totals.{count-with_children, count-insert}
 use Rattle.dom_arena.specs.declared.table.Slot.{Slot}
 use Rattle.dom_arena.specs.Contents.{may_hold}
 use Rattle.dom_arena.specs.Slots.{free, slot_at, last_behind, last, cell, placed}

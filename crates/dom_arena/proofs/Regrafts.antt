@@ -1,11 +1,8 @@
 -- Nodes put in where others were put in before.
 use Rattle.std.proofs.Common.{◌≡◌, ℕ, zero, suc, ◌+◌, ◌≤◌, length, refl, ◌∙◌, ap, inl, inr, arith}
-use Rattle.std.proofs.lemmas.Bool.{cases_eq}
-use Rattle.page_tree.specs.Forest.{Content, Forest, empty, node, same, count, head, tops, find, or_else, children, depth_in}
-use Rattle.page_tree.specs.Edits.{joined, insert_at, with_children}
+use Rattle.page_tree.specs.Forest.{Content, Forest, empty, node, same, count, head, tops, find}
+use Rattle.page_tree.specs.Edits.{joined, insert_at}
 use Rattle.page_tree.proofs.Finding.{same_cases, find-none, or_else-empty}
-use Rattle.page_tree.proofs.Totals.{with_children-none}
-use Rattle.page_tree.proofs.Depths.{depth_in-none}
 use Rattle.dom_arena.specs.Slots.{last_behind}
 use Rattle.dom_arena.specs.Linked.{from_place, before_place}
 use Rattle.dom_arena.proofs.Added.{before_place-end, from_place-end}

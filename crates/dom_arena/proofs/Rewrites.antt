@@ -1,7 +1,7 @@
 -- An element with other attributes, in the forest and in the slots.
 use Rattle.std.proofs.Common.{◌≡◌, ℕ, true, false, List, None, length, refl, sym, ◌∙◌, ap, subst, inl, inr, arith, length-set}
 use Rattle.std.specs.Prelude.{unwrap_or}
-use Rattle.page_tree.specs.Forest.{Content, document, element, text, comment, Forest, empty, node, Tree, rooted, count, size, height, head, find, content, name_of, attrs_of}
+use Rattle.page_tree.specs.Forest.{Content, document, element, text, comment, Forest, empty, node, Tree, rooted, count, size, head, find, content, name_of, attrs_of}
 use Rattle.page_tree.specs.Edits.{with_content, rewritten, with_attr, without_attr, content_at, with_attr_set, with_attr_dropped, with_text}
 use Rattle.page_tree.specs.Trees.{IsTree, MayHave, IsOrdinary, AreOrdinary, AreAttributes, IsLowerCase}
 use Rattle.page_tree.specs.Refusals.{text_refused}

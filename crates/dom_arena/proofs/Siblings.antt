@@ -1,8 +1,8 @@
 -- A new node between siblings.
 use Rattle.std.proofs.Common.{◌≡◌, ℕ, zero, suc, ◌+◌, ◌<◌, ◌≤◌, length, refl, sym, ◌∙◌, ap, inl, inr, ◌⊎◌, arith}
-use Rattle.page_tree.specs.Forest.{Content, Forest, empty, node, same, count, head, tops}
+use Rattle.page_tree.specs.Forest.{Content, Forest, empty, node, count, head, tops}
 use Rattle.page_tree.specs.Edits.{insert_at}
-use Rattle.page_tree.proofs.Finding.{same_cases, same-same, same-eq}
+use Rattle.page_tree.proofs.Finding.{same-same, same-eq}
 use Rattle.dom_arena.specs.declared.table.Slot.{Slot}
 use Rattle.dom_arena.specs.Slots.{cell}
 use Rattle.dom_arena.specs.Linked.{Linked, from_place, before_place}

@@ -1,11 +1,9 @@
 -- A forest without a node and what is below it.
-use Rattle.std.proofs.Common.{◌≡◌, ℕ, suc, ◌+◌, ◌<◌, ◌≤◌, List, Option, Some, None, refl, sym, ◌∙◌, ap, inl, inr, arith}
+use Rattle.std.proofs.Common.{◌≡◌, ℕ, ◌+◌, ◌<◌, ◌≤◌, refl, sym, inl, inr, arith}
 use Rattle.std.proofs.lemmas.Bool.{cases_eq}
-use Rattle.page_tree.specs.Forest.{Content, document, element, text, comment, Forest, empty, node, same, count, size, height, find, or_else, children, depth_in}
-use Rattle.page_tree.specs.Edits.{without, with_children}
-use Rattle.page_tree.specs.Trees.{MayHave, IsGrown, AreOrdinary}
+use Rattle.page_tree.specs.Forest.{Forest, empty, node, same, count, find, children}
+use Rattle.page_tree.specs.Edits.{without}
 use Rattle.page_tree.proofs.Finding.{find-counted, same_cases, find-none, count-find, count-parts}
-use Rattle.page_tree.proofs.Depths.{depth_in-none}
 use Rattle.page_tree.proofs.Totals.{without-none}
 
 -- no number stands more often
