@@ -5,7 +5,7 @@ use Rattle.std.specs.List.{list_any}
 use Rattle.std.proofs.lemmas.Bool.{eqb-true, eq-eqb}
 use Rattle.selector_tree.specs.declared.selector.Step.{Step}
 use Rattle.page_tree.specs.Forest.{Content, document, element, text, comment, Forest, empty, node, Tree, same, count, content, find, children, parent_in, or_some, value_at}
-use Rattle.page_tree.specs.Edits.{with_content}
+use Rattle.page_tree.specs.Edits.{with_content, pruned, alone, subtree}
 use Rattle.page_tree.specs.Standings.{Standing, elements, all, above}
 use Rattle.page_tree.specs.Directions.{is_in, head_is, holders}
 use Rattle.page_tree.proofs.Finding.{find-none}
@@ -16,7 +16,7 @@ use Rattle.sensor_meaning.specs.declared.sensor.Observes.TheVariants.{Attr, AnyA
 use Rattle.sensor_meaning.specs.declared.change.Change.{Change}
 use Rattle.sensor_meaning.specs.declared.change.Change.TheVariants.{Attr as AttrOf, Chars, Came, Went, Moved, Path as PathOf}
 use Rattle.sensor_meaning.specs.Sensors.{sensors}
-use Rattle.sensor_meaning.specs.Changes.{observes, parent_of, places_of, pruned, IsChild, SetsAttr, SetsText, Becomes, IsWellFormed}
+use Rattle.sensor_meaning.specs.Changes.{observes, parent_of, places_of, IsChild, SetsAttr, SetsText, Becomes, IsWellFormed}
 use Rattle.sensor_meaning.specs.Dirty.{hit, is_under, brought, dirty, is_reached}
 use Rattle.sensor_meaning.specs.Nested.{is_outer}
 use Rattle.sensor_laws.specs.Frame.{Event, Frame, touched}
@@ -197,19 +197,26 @@ module _ (found : Bytes → ℕ → Bytes → Bool) (l : List (List Step)) (prop
       (λ x h m. absurd (both (not (gone x))
       (and_parts (not (gone x)) (is_in (all t) x) (sym (in_left u.next (only n) gone p t (numbered t a) part x) ∙ ap (λ (w : Tree). is_in (all w) x) is ∙ h)).0 (ap not m)))
 
+  alone_children : (f : Forest) → children (alone f) ≡ children f
+  alone_children empty = refl
+  alone_children (node n c kids later) = refl
+
+  same_children : (n : ℕ) (f g : Forest) → subtree n f ≡ subtree n g → children (find n f) ≡ children (find n g)
+  same_children n f g is = sym (alone_children (find n f)) ∙ ap children is ∙ alone_children (find n g)
+
   moves : (n p q : ℕ) → Whole (Moved n p q)
   moves n p q t u path route a b c =
       let gone = goes_with (only n) t.nodes in
       let held_t = parent_counted n p 0 t.nodes c.1 in
       let held_u = parent_counted n q 0 u.nodes c.2 in
       let same_gone : (x : ℕ) → goes_with (only n) t.nodes x ≡ goes_with (only n) u.nodes x = λ x. ap (λ m. not (m == 0))
-      (cut_one n x t.nodes (nodes_once t a) held_t ∙ ap (λ (f : Forest). same x n + count x f) c.4
+      (cut_one n x t.nodes (nodes_once t a) held_t ∙ ap (λ (f : Forest). same x n + count x f) (same_children n t.nodes u.nodes c.3)
       ∙ sym (cut_one n x u.nodes (nodes_once u b) held_u)) in
       let old_part = is_part (only n) t a gone (λ x. refl) p (one_child n p t c.1) in
       let new_part = is_part (only n) u b gone same_gone q (one_child n q u c.2) in
       along (Moved n p q) t u path route c.0 gone
       (moved_frame n (only n) gone p q t u path (numbered t a) (numbered u b) old_part new_part
-      (sym (without_part (only n) t a gone (λ x. refl)) ∙ c.5 ∙ without_part (only n) u b gone same_gone))
+      (sym (without_part (only n) t a gone (λ x. refl)) ∙ c.4 ∙ without_part (only n) u b gone same_gone))
       (under (only n) gone q u (numbered u b) new_part (n ∷ []) (λ x h. ap (is_in (n ∷ [])) (eqb-true x n h) ∙ here n []))
 
   all_changes : (change : Change) → Whole change

@@ -2,11 +2,12 @@
 use Rattle.std.proofs.Common.{◌≡◌, ℕ, Bool, true, false, ◌&&◌, ◌==◌, not, inl, inr, List, [], ◌∷◌, ◌++◌, map, refl, sym, ap, subst, ◌∙◌}
 use Rattle.std.proofs.lemmas.Bool.{eqb-true}
 use Rattle.page_tree.specs.Directions.{head_is, is_in}
+use Rattle.page_tree.specs.Edits.{pruned}
 use Rattle.page_tree.specs.Facts.{attr}
 use Rattle.page_tree.specs.Forest.{Tree, value_at}
 use Rattle.page_tree.specs.Standings.{Standing, above, all, attrs, elements, name, standings}
 use Rattle.selector_meaning.specs.Texts.{Bytes}
-use Rattle.sensor_meaning.specs.Changes.{observes, pruned}
+use Rattle.sensor_meaning.specs.Changes.{observes}
 use Rattle.sensor_meaning.specs.declared.change.Change.TheVariants.{Moved}
 use Rattle.sensor_meaning.specs.declared.sensor.Observes.{Observes}
 use Rattle.sensor_meaning.specs.declared.sensor.Observes.TheVariants.{Children, Text}

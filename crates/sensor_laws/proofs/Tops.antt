@@ -2,13 +2,14 @@
 use Rattle.std.proofs.Common.{◌≡◌, ℕ, zero, suc, ◌+◌, ◌<◌, ◌≤◌, Bool, true, false, ◌==◌, not, ◌⊎◌, inl, inr, List, [], ◌∷◌, ◌++◌, cond, Some, refl, sym, ap, ap₂, subst, ◌∙◌, arith}
 use Rattle.std.proofs.lemmas.Bool.{eqb-true, eq-eqb}
 use Rattle.page_tree.specs.Forest.{Content, document, element, text, comment, Forest, empty, node, Tree, same, count, find, children, content, parent_in, or_some}
+use Rattle.page_tree.specs.Edits.{pruned}
 use Rattle.page_tree.specs.Standings.{Sibling, Standing, standings, elements, all}
 use Rattle.page_tree.specs.Directions.{is_in}
 use Rattle.page_tree.specs.Trees.{IsOrdinary, AreOrdinary}
 use Rattle.page_tree.proofs.Finding.{same_cases, find-first, find-below, find-behind}
 use Rattle.page_tree.proofs.Around.{counted_first, where_is, parent_in-below, parent_in-behind}
 use Rattle.page_tree.proofs.Parts.{parent_some}
-use Rattle.sensor_meaning.specs.Changes.{pruned, IsWellFormed}
+use Rattle.sensor_meaning.specs.Changes.{IsWellFormed}
 use Rattle.sensor_laws.specs.Frame.{IsDistinct}
 use Rattle.sensor_laws.proofs.Any.{never_true, or_parts, no, both}
 use Rattle.sensor_laws.proofs.Relations.{cases}

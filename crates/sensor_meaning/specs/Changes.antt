@@ -1,8 +1,8 @@
 -- What a change of a page says of the trees before and after it.
-use Rattle.std.specs.Prelude.{◌≡◌, ℕ, ◌≤◌, Bool, true, false, ◌==◌, List, [], ◌∷◌, cond, Some, unwrap_or}
+use Rattle.std.specs.Prelude.{◌≡◌, ℕ, ◌≤◌, Bool, true, false, ◌==◌, List, [], ◌∷◌, Some, unwrap_or}
 use Rattle.std.specs.Str.{bytes_eq}
-use Rattle.page_tree.specs.Forest.{element, text, Forest, empty, node, Tree, rooted, count, find, content, children, value_at, parent_in}
-use Rattle.page_tree.specs.Edits.{with_content}
+use Rattle.page_tree.specs.Forest.{element, text, Tree, rooted, count, find, content, value_at, parent_in}
+use Rattle.page_tree.specs.Edits.{with_content, pruned, subtree}
 use Rattle.page_tree.specs.Directions.{is_in}
 use Rattle.page_tree.specs.Trees.{IsGrown, AreOrdinary}
 use Rattle.selector_meaning.specs.Texts.{Bytes}
@@ -38,11 +38,6 @@ places_of (Went p) u = p ∷ []
 places_of (Moved n p q) u = p ∷ q ∷ []
 places_of PathOf u = 0 ∷ []
 
--- the forest without some nodes and what is below them
-abbrev pub pruned : (ℕ → Bool) → Forest → Forest
-pruned gone empty = empty
-pruned gone (node n c kids later) = cond (gone n) (pruned gone later) (node n c (pruned gone kids) (pruned gone later))
-
 -- the node k is a child of p
 abbrev pub IsChild : ℕ → ℕ → Tree → Type 0
 IsChild k p t = parent_in k 0 t.nodes ≡ Some p
@@ -74,8 +69,8 @@ Becomes (Came p tops) t path u route =
 Becomes (Went p) t path u route = (path ≡ route) × ((n : ℕ) × IsChild n p t × (u.nodes ≡ pruned (λ k. k == n) t.nodes))
 -- the node is a child of p in t and of q in u, and all else is the same
 Becomes (Moved n p q) t path u route =
-    (path ≡ route) × IsChild n p t × IsChild n q u × (content (find n t.nodes) ≡ content (find n u.nodes))
-    × (children (find n t.nodes) ≡ children (find n u.nodes)) × (pruned (λ k. k == n) t.nodes ≡ pruned (λ k. k == n) u.nodes)
+    (path ≡ route) × IsChild n p t × IsChild n q u × (subtree n t.nodes ≡ subtree n u.nodes)
+    × (pruned (λ k. k == n) t.nodes ≡ pruned (λ k. k == n) u.nodes)
 Becomes PathOf t path u route = t ≡ u
 
 -- what every tree keeps, of any size
