@@ -1,5 +1,5 @@
 -- Each element of both trees whose answer differs is dirty.
-use Rattle.std.proofs.Common.{◌≡◌, ℕ, Bool, true, false, ◌||◌, not, List, [], ◌∷◌, map, refl, ◌∙◌}
+use Rattle.std.proofs.Common.{◌≡◌, ℕ, Bool, true, false, not, List, [], ◌∷◌, map, refl}
 use Rattle.std.specs.List.{list_any}
 use Rattle.selector_tree.specs.declared.selector.Step.{Step}
 use Rattle.selector_tree.specs.declared.selector.Test.{Test}
@@ -11,7 +11,7 @@ use Rattle.sensor_meaning.specs.Dirty.{hit}
 use Rattle.sensor_meaning.specs.Nested.{is_outer, step_others, test_others}
 use Rattle.sensor_meaning.specs.Sensors.{Sensors, leads, members, sensors}
 use Rattle.sensor_laws.specs.Frame.{Event, Frame}
-use Rattle.sensor_laws.proofs.Any.{never_true, and-true, or-left, or-right, is_in-filter}
+use Rattle.sensor_laws.proofs.Any.{never_true}
 use Rattle.sensor_laws.proofs.Relations.{cases}
 use Rattle.sensor_laws.proofs.Laws.{TestLaw}
 use Rattle.sensor_laws.proofs.Chains.{selected, chain_selects, chain_leads}

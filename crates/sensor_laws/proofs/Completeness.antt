@@ -5,9 +5,9 @@ use Rattle.std.specs.List.{list_any}
 use Rattle.std.proofs.lemmas.Bool.{eqb-true, eq-eqb}
 use Rattle.selector_tree.specs.declared.selector.Step.{Step}
 use Rattle.page_tree.specs.Forest.{Content, document, element, text, comment, Forest, empty, node, Tree, same, count, content, find, children, parent_in, or_some, value_at}
-use Rattle.page_tree.specs.Edits.{with_content, pruned, alone, subtree}
-use Rattle.page_tree.specs.Standings.{Standing, elements, all, above}
-use Rattle.page_tree.specs.Directions.{is_in, head_is, holders}
+use Rattle.page_tree.specs.Edits.{with_content, alone, subtree}
+use Rattle.page_tree.specs.Standings.{all, above}
+use Rattle.page_tree.specs.Directions.{is_in, head_is}
 use Rattle.page_tree.proofs.Finding.{find-none}
 use Rattle.page_tree.proofs.Parts.{parent_some}
 use Rattle.selector_meaning.specs.Texts.{Bytes}
@@ -16,13 +16,13 @@ use Rattle.sensor_meaning.specs.declared.sensor.Observes.TheVariants.{Attr, AnyA
 use Rattle.sensor_meaning.specs.declared.change.Change.{Change}
 use Rattle.sensor_meaning.specs.declared.change.Change.TheVariants.{Attr as AttrOf, Chars, Came, Went, Moved, Path as PathOf}
 use Rattle.sensor_meaning.specs.Sensors.{sensors}
-use Rattle.sensor_meaning.specs.Changes.{observes, parent_of, places_of, IsChild, SetsAttr, SetsText, Becomes, IsWellFormed}
-use Rattle.sensor_meaning.specs.Dirty.{hit, is_under, brought, dirty, is_reached}
+use Rattle.sensor_meaning.specs.Changes.{parent_of, IsChild, SetsAttr, SetsText, Becomes, IsWellFormed}
+use Rattle.sensor_meaning.specs.Dirty.{is_under, brought, dirty, is_reached}
 use Rattle.sensor_meaning.specs.Nested.{is_outer}
-use Rattle.sensor_laws.specs.Frame.{Event, Frame, touched}
+use Rattle.sensor_laws.specs.Frame.{Frame, touched}
 use Rattle.sensor_laws.specs.Laws.{Completeness}
 use Rattle.sensor_laws.proofs.Any.{never_true, and-true, and_parts, or-left, or-right, here, no, both, is_in-filter}
-use Rattle.sensor_laws.proofs.Relations.{cases, or-off}
+use Rattle.sensor_laws.proofs.Relations.{cases}
 use Rattle.sensor_laws.proofs.Events.{IsNumbered, IsPart, cut, event_of, part_event}
 use Rattle.sensor_laws.proofs.Sound.{above_is, sound}
 use Rattle.sensor_laws.proofs.Facts.{stands}
@@ -31,7 +31,7 @@ use Rattle.sensor_laws.proofs.Rewritten.{redo, Fits, placed_in, rewritten_frame}
 use Rattle.sensor_laws.proofs.PartFrames.{went_frame, came_frame, in_left, hangs_all}
 use Rattle.sensor_laws.proofs.MovedFrame.{moved_frame}
 use Rattle.sensor_laws.proofs.PathFrame.{path_frame}
-use Rattle.sensor_laws.proofs.Tops.{numbered, nodes_once, no_document, goes_with, is_part, without_part, cut_one, parent_counted}
+use Rattle.sensor_laws.proofs.Tops.{numbered, nodes_once, goes_with, is_part, without_part, cut_one, parent_counted}
 
 -- ---- one content becomes another one
 parent-kept : (k j up : ℕ) (new : Content) (f : Forest) → parent_in k up (with_content j new f) ≡ parent_in k up f

@@ -1,9 +1,9 @@
 -- The events of changes: which numbers moved, what sees a change, and its places.
-use Rattle.std.specs.Prelude.{◌≡◌, ℕ, Bool, true, false, ◌==◌, ◌⊎◌, List, [], ◌∷◌}
-use Rattle.page_tree.specs.Forest.{Content, Forest, empty, node, Tree}
+use Rattle.std.specs.Prelude.{◌≡◌, ℕ, Bool, true, false, ◌⊎◌, [], ◌∷◌}
+use Rattle.page_tree.specs.Forest.{Forest, empty, node, Tree}
 use Rattle.page_tree.specs.Edits.{pruned}
 use Rattle.page_tree.specs.Standings.{all}
-use Rattle.page_tree.specs.Trees.{IsOrdinary, AreOrdinary}
+use Rattle.page_tree.specs.Trees.{IsOrdinary}
 use Rattle.page_tree.specs.Directions.{is_in}
 use Rattle.selector_meaning.specs.Texts.{Bytes}
 use Rattle.sensor_meaning.specs.declared.change.Change.{Change}

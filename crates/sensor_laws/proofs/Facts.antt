@@ -3,7 +3,7 @@ use Rattle.std.proofs.Common.{◌≡◌, ℕ, Bool, true, false, ◌||◌, ◌==
 use Rattle.std.specs.List.{list_any}
 use Rattle.std.proofs.lemmas.Bool.{eqb-true, eq-eqb}
 use Rattle.page_tree.specs.Directions.{head_is, is_in, numbers_of}
-use Rattle.page_tree.specs.Facts.{attr, is_blank, texts}
+use Rattle.page_tree.specs.Facts.{is_blank, texts}
 use Rattle.page_tree.specs.Forest.{Tree, value_at}
 use Rattle.page_tree.specs.Standings.{Standing, above, after, all, attrs, before, elements, inner, name, standing}
 use Rattle.selector_meaning.specs.Texts.{Bytes}

@@ -1,5 +1,5 @@
 -- The three laws together, by induction over the operators.
-use Rattle.std.proofs.Common.{◌≡◌, ℕ, ◌-◌, Bool, true, false, ◌||◌, not, List, [], ◌∷◌, ◌++◌, map, find, slice_get, refl, sym, ap, ap₂, subst, ◌∙◌}
+use Rattle.std.proofs.Common.{◌≡◌, ℕ, Bool, true, false, ◌||◌, not, List, [], ◌∷◌, ◌++◌, map, find, refl, sym, ap, ap₂, subst, ◌∙◌}
 use Rattle.std.specs.List.{list_any, flat_map}
 use Rattle.selector_tree.specs.declared.selector.Place.{Place}
 use Rattle.selector_tree.specs.declared.selector.Place.TheVariants.{After, Child, Descendant, Next}

@@ -17,3 +17,5 @@ pub mod MovedFrame
 pub mod PathFrame
 pub mod Tops
 pub mod Completeness
+pub mod EditFacts
+pub mod FromEdits

@@ -3,9 +3,8 @@ use Rattle.std.proofs.Common.{◌≡◌, ℕ, Bool, true, false, ◌&&◌, ◌==
 use Rattle.std.proofs.lemmas.Bool.{eqb-true}
 use Rattle.page_tree.specs.Directions.{head_is, is_in}
 use Rattle.page_tree.specs.Edits.{pruned}
-use Rattle.page_tree.specs.Facts.{attr}
 use Rattle.page_tree.specs.Forest.{Tree, value_at}
-use Rattle.page_tree.specs.Standings.{Standing, above, all, attrs, elements, name, standings}
+use Rattle.page_tree.specs.Standings.{Standing, all, elements, standings}
 use Rattle.selector_meaning.specs.Texts.{Bytes}
 use Rattle.sensor_meaning.specs.Changes.{observes}
 use Rattle.sensor_meaning.specs.declared.change.Change.TheVariants.{Moved}

@@ -1,8 +1,7 @@
 -- The facts of a change of the path.
 use Rattle.std.proofs.Common.{◌≡◌, false, inl, refl, sym}
-use Rattle.page_tree.specs.Facts.{attr}
 use Rattle.page_tree.specs.Forest.{Tree}
-use Rattle.page_tree.specs.Standings.{above, attrs, elements, name}
+use Rattle.page_tree.specs.Standings.{elements}
 use Rattle.selector_meaning.specs.Texts.{Bytes}
 use Rattle.sensor_meaning.specs.declared.change.Change.TheVariants.{Path as PathOf}
 use Rattle.sensor_meaning.specs.declared.sensor.Observes.TheVariants.{Path}

@@ -6,7 +6,7 @@ use Rattle.page_tree.specs.Directions.{head_is, is_in}
 use Rattle.page_tree.specs.Edits.{pruned}
 use Rattle.page_tree.specs.Facts.{is_blank, texts}
 use Rattle.page_tree.specs.Forest.{Content, Forest, comment, document, element, empty, node, text}
-use Rattle.page_tree.specs.Standings.{Sibling, Standing, above, after, before, inner, siblings_of, standings}
+use Rattle.page_tree.specs.Standings.{Sibling, Standing, siblings_of, standings}
 use Rattle.sensor_laws.proofs.Events.{Hung}
 use Rattle.sensor_laws.specs.Frame.{IsDistinct}
 use Rattle.sensor_laws.proofs.Any.{never_true, or_parts, or_none, or-right, no, both, here, and_parts, is_in-filter}

@@ -1,6 +1,5 @@
 -- The facts of a change that gives elements other attributes, or Text nodes below a place other texts.
 use Rattle.std.proofs.Common.{◌≡◌, ℕ, ◌+◌, ◌<◌, ◌≤◌, Bool, true, false, ◌&&◌, ◌||◌, ◌==◌, ◌⊎◌, inl, inr, List, [], ◌∷◌, ◌++◌, length, cond, Some, refl, sym, ap, ap₂, subst, ◌∙◌, arith}
-use Rattle.std.specs.Str.{bytes_eq}
 use Rattle.std.proofs.lemmas.Bool.{eqb-true, eq-eqb}
 use Rattle.std.proofs.lemmas.List.{map-append}
 use Rattle.page_tree.specs.Forest.{Content, document, element, text, comment, Forest, empty, node, Tree, count, find, content, parent_in, value_at}
@@ -19,7 +18,7 @@ use Rattle.sensor_laws.proofs.Any.{never_true, or_parts, or_none, or-right, no, 
 use Rattle.sensor_laws.proofs.Relations.{cases}
 use Rattle.sensor_laws.proofs.Events.{IsNumbered}
 use Rattle.sensor_laws.proofs.Sound.{In, in-left, in-right, in-either, named, in_named, above_is}
-use Rattle.sensor_laws.proofs.Facts.{Kept, Facts, frame_of}
+use Rattle.sensor_laws.proofs.Facts.{Kept, frame_of}
 
 -- a content with other attributes, or another text
 abbrev pub redo : (ℕ → List (Bytes × Bytes) → List (Bytes × Bytes)) → (ℕ → Bytes → Bytes) → ℕ → Content → Content

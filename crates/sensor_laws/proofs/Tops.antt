@@ -1,11 +1,11 @@
 -- Children of a place, by their numbers alone: with what is below them they are a part of the tree.
 use Rattle.std.proofs.Common.{◌≡◌, ℕ, zero, suc, ◌+◌, ◌<◌, ◌≤◌, Bool, true, false, ◌==◌, not, ◌⊎◌, inl, inr, List, [], ◌∷◌, ◌++◌, cond, Some, refl, sym, ap, ap₂, subst, ◌∙◌, arith}
 use Rattle.std.proofs.lemmas.Bool.{eqb-true, eq-eqb}
-use Rattle.page_tree.specs.Forest.{Content, document, element, text, comment, Forest, empty, node, Tree, same, count, find, children, content, parent_in, or_some}
+use Rattle.page_tree.specs.Forest.{Content, document, element, text, comment, Forest, empty, node, Tree, same, count, find, children, parent_in, or_some}
 use Rattle.page_tree.specs.Edits.{pruned}
 use Rattle.page_tree.specs.Standings.{Sibling, Standing, standings, elements, all}
 use Rattle.page_tree.specs.Directions.{is_in}
-use Rattle.page_tree.specs.Trees.{IsOrdinary, AreOrdinary}
+use Rattle.page_tree.specs.Trees.{AreOrdinary}
 use Rattle.page_tree.proofs.Finding.{same_cases, find-first, find-below, find-behind}
 use Rattle.page_tree.proofs.Around.{counted_first, where_is, parent_in-below, parent_in-behind}
 use Rattle.page_tree.proofs.Parts.{parent_some}
