@@ -1,5 +1,5 @@
 -- What a chain leads to passes the tests behind its last step that is no test, and so carries its key.
-use Rattle.std.proofs.Common.{◌≡◌, ℕ, zero, suc, ◌+◌, ◌<◌, Bool, true, false, ◌||◌, inl, inr, List, [], ◌∷◌, ◌++◌, map, fold, Option, None, Some, length, take, get_or, refl, sym, ap, subst, ◌∙◌, arith}
+use Rattle.std.proofs.Common.{◌≡◌, ℕ, ◌+◌, ◌<◌, Bool, true, false, inl, inr, List, [], ◌∷◌, ◌++◌, map, fold, Option, None, Some, length, take, get_or, refl, sym, ap, subst, ◌∙◌}
 use Rattle.std.specs.List.{list_any}
 use Rattle.std.specs.Str.{bytes_eq}
 use Rattle.std.proofs.lemmas.List.{take_more}
@@ -7,7 +7,7 @@ use Rattle.std.proofs.lemmas.Bool.{or_cases, or_left, or_right, and_parts}
 use Rattle.selector_tree.specs.declared.selector.Step.{Step, out-Step}
 use Rattle.selector_tree.specs.declared.selector.Step.TheOpen.{Step-F, Test-F}
 use Rattle.selector_tree.specs.declared.selector.Step.TheFolds.{fold-roll-Step, fold-roll-Test, map-Step, map-Test}
-use Rattle.selector_tree.specs.declared.selector.Step.TheViews.{roll-Step, roll-Test, roll-out-Step, roll-out-Test}
+use Rattle.selector_tree.specs.declared.selector.Step.TheViews.{roll-out-Step, roll-out-Test}
 use Rattle.selector_tree.specs.declared.selector.Test.{Test, out-Test}
 use Rattle.page_tree.specs.Forest.{Tree}
 use Rattle.page_tree.specs.Standings.{all, name}
@@ -16,10 +16,7 @@ use Rattle.page_tree.specs.Directions.{is_in}
 use Rattle.page_tree.proofs.Members.{is_in-filter}
 use Rattle.selector_meaning.specs.Texts.{Bytes, some_fits}
 use Rattle.selector_meaning.specs.Meaning.{StepMeaning, TestMeaning, run, step_meaning, test_meaning, step_of, holds, selects}
-use Rattle.generic_tables.specs.declared.keys.Kind.{Kind}
 use Rattle.generic_tables.specs.declared.keys.Kind.TheVariants as kind
-use Rattle.generic_tables.specs.declared.keys.Key.{Key}
-use Rattle.generic_tables.specs.declared.keys.Key.TheVariants as key
 use Rattle.generic_tables.specs.Keys.{carries, test_at, kept_test, one_more, last_tests, value_at, value_of, value_in, first_value, key_from, key_of_chain, is_keyed, KeyLaw}
 
 none_true : {A : Type 0} → false ≡ true → A

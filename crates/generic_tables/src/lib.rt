@@ -12,5 +12,4 @@ pub use keys::{Key, Keys, keys_of};
 /// States the law of keys: what a selector selects carries the key of one of its chains.
 pub fn state()
     ensures { KeyLaw }
-{
-}
+{}

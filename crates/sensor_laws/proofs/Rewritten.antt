@@ -245,8 +245,8 @@ module _ (e : Event) (fa : ℕ → List (Bytes × Bytes) → List (Bytes × Byte
               let c_is : c ≡ old = some_content c old (sym (ap content (ap (λ j. find j (node n c kids rest)) is ∙ find-first n c kids rest)) ∙ was) in
               let h_is : h ≡ q = some_number h q (sym (ap (λ b. cond b (Some h) (Rattle.page_tree.specs.Forest.or_some (parent_in k n kids) (parent_in k h rest))) (eq-eqb k n is)) ∙ held) in (
                 rw (eq-eqb k n is) (ap₂ (λ x y. node n new x y) a.0 b.0
-                ∙ ap (λ (d : Content). node n d (redone fa ft kids) (redone fa ft rest))
-                (becomes ∙ ap₂ (redo fa ft) is (sym c_is))),
+                    ∙ ap (λ (d : Content). node n d (redone fa ft kids) (redone fa ft rest))
+                    (becomes ∙ ap₂ (redo fa ft) is (sym c_is))),
                 (subst (λ (j : ℕ). Fits h j c) is (subst (λ (d : Content). Fits h k d) (sym c_is) (fits h h_is)), a.1, b.1),
               )
           | inr more ↦

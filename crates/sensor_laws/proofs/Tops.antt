@@ -53,10 +53,10 @@ distinct (node n (element called given) kids rest) up seen once =
     let here = counted_first n (element called given) kids rest in
     let split : named (K ++ R) ≡ named K ++ named R = Rattle.std.proofs.lemmas.List.map-append (λ (r : Standing). r.number) K R in (
       no (is_in (named (K ++ R)) n) (λ h. elim (or_parts (is_in (named K) n) (is_in (named R) n)
-      (sym (ap (λ l. is_in l n) split ∙ Rattle.sensor_laws.proofs.Any.any-append (λ y. y == n) (named K) (named R)) ∙ h)) [
-        | inl i ↦ first_twice n (element called given) kids rest (once n) (inl (counted_at kids (n ∷ up) [] n i))
-        | inr i ↦ first_twice n (element called given) kids rest (once n) (inr (counted_at rest up (record { number = n; name = called } ∷ seen) n i))
-      ]),
+          (sym (ap (λ l. is_in l n) split ∙ Rattle.sensor_laws.proofs.Any.any-append (λ y. y == n) (named K) (named R)) ∙ h)) [
+            | inl i ↦ first_twice n (element called given) kids rest (once n) (inl (counted_at kids (n ∷ up) [] n i))
+            | inr i ↦ first_twice n (element called given) kids rest (once n) (inr (counted_at rest up (record { number = n; name = called } ∷ seen) n i))
+          ]),
       subst IsDistinct (sym split)
           (distinct-append (named K) (named R) (distinct kids (n ∷ up) [] (λ k. omega (arith, once k)))
           (distinct rest up (record { number = n; name = called } ∷ seen) (λ k. omega (arith, once k)))
@@ -204,8 +204,11 @@ module _ (top : ℕ → Bool) where
         cases (top n)
         (λ g. let is : count p (node n c kids rest) ≡ 0 = ap (λ (j : ℕ). count j (node n c kids rest)) (sym (under_top p h n c kids rest once under g)) ∙ z in
         omega (arith, at_top p n c kids rest g))
-        (λ g. omega (arith, not_top p n c kids rest g,
-        place_out kids p n (λ x. omega (arith, once x)) (omega (arith, once n, itself n)) (under_kids p h n c kids rest once under)))
+        (λ g. omega (
+          arith,
+          not_top p n c kids rest g,
+          place_out kids p n (λ x. omega (arith, once x)) (omega (arith, once n, itself n)) (under_kids p h n c kids rest once under),
+        ))
 
   -- the tops of a tree with what is below them are a part of it
   module _ (t : Tree) (tree : IsWellFormed t) (gone : ℕ → Bool) (is : (x : ℕ) → gone x ≡ goes_with t.nodes x) where
@@ -237,10 +240,20 @@ cut_one k x (node n c kids rest) once h =
             | inr p ↦ p.0 (sym (eqb-true n k e))
           ]) in
           elim more [
-            | inl i ↦ omega (arith, not_top (λ j. j == k) x n c kids rest apart, cut_one k x kids (λ j. omega (arith, once j)) i,
-                cut_none k x rest (omega (arith, once k)), ap (λ (g : Forest). count x (children g)) (find-below k n c kids rest (once k) i))
-            | inr i ↦ omega (arith, not_top (λ j. j == k) x n c kids rest apart, cut_one k x rest (λ j. omega (arith, once j)) i,
-                cut_none k x kids (omega (arith, once k)), ap (λ (g : Forest). count x (children g)) (find-behind k n c kids rest (once k) i))
+            | inl i ↦ omega (
+              arith,
+              not_top (λ j. j == k) x n c kids rest apart,
+              cut_one k x kids (λ j. omega (arith, once j)) i,
+              cut_none k x rest (omega (arith, once k)),
+              ap (λ (g : Forest). count x (children g)) (find-below k n c kids rest (once k) i),
+            )
+            | inr i ↦ omega (
+              arith,
+              not_top (λ j. j == k) x n c kids rest apart,
+              cut_one k x rest (λ j. omega (arith, once j)) i,
+              cut_none k x kids (omega (arith, once k)),
+              ap (λ (g : Forest). count x (children g)) (find-behind k n c kids rest (once k) i),
+            )
           ]
     ]
   where

@@ -13,8 +13,7 @@ ghost use Rattle.sensor_laws.specs.Edits.{AttrSet, AttrDropped, TextSet, TakenOu
 /// States the law: whatever the kind of change, each element of both trees whose answer differs is dirty.
 pub fn state()
     ensures { Completeness }
-{
-}
+{}
 
 /// States that each edit of a tree is a change of its kind.
 pub fn state_edits()
@@ -25,5 +24,4 @@ pub fn state_edits()
     ensures fragment_came { FragmentCame }
     ensures node_moved { NodeMoved }
     ensures path_set { PathSet }
-{
-}
+{}

@@ -1,5 +1,5 @@
 -- The tables of sensors, row by row, on an example: r are the sensors of the other steps, q those of a test.
-use Rattle.std.proofs.Common.{◌≡◌, ℕ, true, false, pos, List, [], ◌∷◌, codes, None, ap, refl}
+use Rattle.std.proofs.Common.{◌≡◌, true, false, pos, List, [], ◌∷◌, codes, None, refl}
 use Rattle.selector_tree.specs.declared.selector.Place.TheVariants.{Child, Descendant, Next, After}
 use Rattle.selector_tree.specs.declared.selector.AttrOp.TheVariants.{Exists}
 use Rattle.selector_tree.specs.declared.selector.Arg.TheVariants.{Literal}
@@ -11,7 +11,7 @@ use Rattle.sensor_meaning.specs.declared.sensor.Observes.TheVariants.{Attr, AnyA
 use Rattle.sensor_meaning.specs.declared.sensor.Way.{Way}
 use Rattle.sensor_meaning.specs.declared.sensor.Way.TheVariants.{ToChild, ToBelow, ToParent, ToAbove, ToNext, ToPrevious, ToAfter, ToBefore, Whole}
 use Rattle.sensor_meaning.specs.declared.sensor.Sensor.{Sensor}
-use Rattle.sensor_meaning.specs.Sensors.{Sensors, StepSensors, members, leads, sensors_of_step, sensors_of_test, sensors}
+use Rattle.sensor_meaning.specs.Sensors.{Sensors, StepSensors, sensors_of_step, sensors_of_test, sensors}
 use Rattle.sensor_meaning.proofs.Laws.{step-Keep, step-Move, step-Upward, step-UpwardTo, step-Others, test-Any, test-Tag, test-Id, test-Class, test-Attr, test-Root, test-Empty, test-Nth, test-Only, test-Is, test-Not, test-Has, test-HasText, test-MinText, test-MatchesPath, test-MatchesAttr, test-WatchAttr}
 
 -- a sensor in one line

@@ -6,7 +6,6 @@ use Rattle.selector_tree.specs.declared.selector.Step.TheVariants.{Keep, Move, U
 use Rattle.selector_tree.specs.declared.selector.Test.TheVariants as test
 use Rattle.page_tree.specs.Forest.{element, Forest, empty, node, Tree}
 use Rattle.page_tree.specs.Standings.{elements, standing}
-use Rattle.sensor_meaning.specs.declared.change.Change.{Change}
 use Rattle.sensor_meaning.specs.declared.change.Change.TheVariants.{Attr as AttrOf, Came, Went, Moved, Path as PathOf}
 use Rattle.sensor_meaning.specs.Sensors.{sensors}
 use Rattle.sensor_meaning.specs.Dirty.{dirty, comes, led, spread, hit}

@@ -1,16 +1,15 @@
 -- The elements whose answers a change can have touched. 0 is the document.
-use Rattle.std.specs.Prelude.{ℕ, Bool, true, false, not, ◌&&◌, ◌||◌, ◌==◌, List, [], ◌∷◌, filter}
+use Rattle.std.specs.Prelude.{ℕ, Bool, false, not, ◌&&◌, ◌||◌, ◌==◌, List, [], ◌∷◌, filter}
 use Rattle.std.specs.List.{list_any}
 use Rattle.page_tree.specs.Forest.{Tree}
 use Rattle.page_tree.specs.Standings.{all, above}
 use Rattle.page_tree.specs.Directions.{is_in, goes, to_child, to_below, to_parent, to_above, to_next, to_previous, to_after, to_before}
-use Rattle.selector_tree.specs.declared.selector.Step.{Step}
 use Rattle.sensor_meaning.specs.declared.sensor.Observes.{Observes}
 use Rattle.sensor_meaning.specs.declared.sensor.Way.{Way}
 use Rattle.sensor_meaning.specs.declared.sensor.Way.TheVariants.{ToChild, ToBelow, ToParent, ToAbove, ToNext, ToPrevious, ToAfter, ToBefore, Whole}
 use Rattle.sensor_meaning.specs.declared.change.Change.{Change}
 use Rattle.sensor_meaning.specs.declared.change.Change.TheVariants.{Came, Moved}
-use Rattle.sensor_meaning.specs.Sensors.{Sensors, sensors}
+use Rattle.sensor_meaning.specs.Sensors.{Sensors}
 use Rattle.sensor_meaning.specs.Changes.{observes, places_of}
 
 module _ (t : Tree) where

@@ -1,6 +1,6 @@
 -- What a filter's answers depend on. A sensor is what is observed, and a route from the place of a change to the element
 -- whose answer is asked.
-use Rattle.std.specs.Prelude.{ℕ, Bool, true, false, List, [], ◌∷◌, ◌++◌, map, codes, if◌then◌else◌}
+use Rattle.std.specs.Prelude.{Bool, true, false, List, [], ◌∷◌, ◌++◌, map, codes, if◌then◌else◌}
 use Rattle.std.specs.List.{flat_map}
 use Rattle.selector_tree.specs.declared.selector.Place.TheVariants.{Child, Descendant, Next, After}
 use Rattle.selector_tree.specs.declared.selector.Step.{Step, fold-Step}

@@ -1,6 +1,6 @@
-use Rattle.std.proofs.Common.{◌≡◌, None, Some, sym, ap, ◌∙◌, arith}
+use Rattle.std.proofs.Common.{sym, ap, ◌∙◌}
 use Rattle.std.specs.Option.{option_copied}
-use Rattle.generic_tables.specs.Keys.{kept_test, value_of, value_in}
+use Rattle.generic_tables.specs.Keys.{value_of, value_in}
 use Rattle.generic_tables.proofs.KeyLaws.{behind_test, behind_other}
 use Rattle.generic_tables.proofs.keys.first_value.Goals as goal
 use Rattle.generic_tables.proofs.keys.first_value.Goals.{in-Some, in-None}
