@@ -1,0 +1,4 @@
+pub mod Cuts
+mod Examples
+mod Labels
+mod Names

@@ -1,0 +1,51 @@
+-- Which texts name a host, and when a host stands under a name.
+use Rattle.std.specs.Prelude.{ℕ, ◌==◌, ◌-◌, ◌&&◌, ◌||◌, Bool, true, false, not, nat_le, List, [], ◌∷◌, length, drop, Option, None, option_and_then, if◌then◌else◌}
+use Rattle.std.specs.List.{list_all, list_any, slice_split}
+use Rattle.std.specs.Str.{bytes_eq}
+use Rattle.idna.specs.Uts46.{domain_to_ascii, if_passes}
+use Rattle.idna.specs.declared.deny_list.TheConstants.AsciiDenyList.{URL}
+
+abbrev pub is_dot : ℕ → Bool
+is_dot b = b == 46
+
+-- the labels of a name: what stands between its dots
+abbrev pub labels_of : List ℕ → List (List ℕ)
+labels_of name = slice_split is_dot name
+
+abbrev pub is_filled : List ℕ → Bool
+is_filled label = not (length label == 0)
+
+-- no label of a name is empty; an empty name has one empty label
+abbrev pub is_host_name : List ℕ → Bool
+is_host_name name = list_all is_filled (labels_of name)
+
+-- `*` or `~`
+abbrev pub is_sign : ℕ → Bool
+is_sign b = b == 42 || b == 126
+
+-- the name by ToASCII, as the URL Standard asks for it (UTS 46)
+unfoldable pub ascii_name : List ℕ → Option (List ℕ)
+ascii_name text = domain_to_ascii URL text
+
+-- the host that a text names: it has no `*` and no `~`, ToASCII gives a name, and the name has no empty label
+abbrev pub host_of : List ℕ → Option (List ℕ)
+host_of text = if list_any is_sign text then None else option_and_then (if_passes is_host_name) (ascii_name text)
+
+-- the last labels of a list, as many as that
+abbrev pub last : {A : Type 0} → ℕ → List A → List A
+last n labels = drop (length labels - n) labels
+
+-- label by label, each fits
+abbrev pub all_fit : (List ℕ → List ℕ → Bool) → List (List ℕ) → List (List ℕ) → Bool
+all_fit fits [] [] = true
+all_fit fits (wanted ∷ more) (label ∷ labels) = fits wanted label && all_fit fits more labels
+all_fit fits _ _ = false
+
+-- there are at least as many labels as wanted, and the last ones fit those
+abbrev pub ends_with_labels : (List ℕ → List ℕ → Bool) → List (List ℕ) → List (List ℕ) → Bool
+ends_with_labels fits wanted labels =
+    nat_le (length wanted) (length labels) && all_fit fits wanted (last (length wanted) labels)
+
+-- the host is that name, or stands under it: its last labels are those of the name
+abbrev pub is_under : List ℕ → List ℕ → Bool
+is_under name host = ends_with_labels bytes_eq (labels_of name) (labels_of host)

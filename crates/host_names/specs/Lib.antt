@@ -1,0 +1,4 @@
+pub mod Hosts
+pub mod Suffixes
+pub mod SuffixLines
+pub mod Held

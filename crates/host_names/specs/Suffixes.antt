@@ -1,0 +1,63 @@
+-- Public suffixes, by the format of the public suffix list; `*` stands for a first label alone.
+use Rattle.std.specs.Prelude.{ℕ, ◌==◌, ◌-◌, ◌&&◌, ◌||◌, Bool, false, nat_le, nat_lt, max, List, [], ◌∷◌, codes, length, take, filter, slice_index, Option, Some, None, if◌then◌else◌, refl}
+use Rattle.std.specs.Char.{is_ascii_digit}
+use Rattle.std.specs.Coded.{Coded, code_by, coded×, coded_bool, coded_list, coded_ℕ}
+use Rattle.std.specs.List.{list_all, join_with_byte}
+use Rattle.std.specs.Str.{bytes_eq}
+use Rattle.host_names.specs.Hosts.{ends_with_labels, is_filled, labels_of, last}
+
+-- a rule: its labels, of which the first may be `*`, and whether `!` makes it an exception
+pub record Rule : Type 0 where
+  pub exception : Bool
+  pub labels : List (List ℕ)
+
+-- `*` equals any label
+abbrev pub label_fits : List ℕ → List ℕ → Bool
+label_fits wanted label = bytes_eq wanted (codes "*") || bytes_eq wanted label
+
+-- the rule matches a host that has at least as many labels, and whose last labels equal the rule's
+abbrev pub matches : List (List ℕ) → Rule → Bool
+matches labels rule = ends_with_labels label_fits rule.labels labels
+
+-- the greatest number of labels, 0 where there is no rule
+abbrev pub most_labels : List Rule → ℕ
+most_labels [] = 0
+most_labels (rule ∷ rules) = max (length rule.labels) (most_labels rules)
+
+-- of the rules that match, the longest exception wins, and its first label isn't of the suffix; else the rule with most
+-- labels; with none the rule is `*`
+abbrev pub count_by : List Rule → ℕ
+count_by matching =
+    let exceptions = most_labels (filter (λ rule. rule.exception) matching) in
+    if nat_lt 0 exceptions then exceptions - 1 else max 1 (most_labels matching)
+
+-- how many labels of a host are its public suffix
+abbrev pub suffix_count : List Rule → List (List ℕ) → ℕ
+suffix_count rules labels = count_by (filter (matches labels) rules)
+
+-- the public suffix of a host
+abbrev pub suffix : List Rule → List ℕ → List ℕ
+suffix rules host = join_with_byte 46 (last (suffix_count rules (labels_of host)) (labels_of host))
+
+-- the last label is of digits alone, at least one
+abbrev pub is_number : List (List ℕ) → Bool
+is_number [] = false
+is_number (label ∷ []) = is_filled label && list_all is_ascii_digit label
+is_number (label ∷ labels) = is_number labels
+
+-- an empty host, an address in brackets, and one whose last label is a number
+abbrev pub has_no_name : List ℕ → Bool
+has_no_name host = length host == 0 || slice_index host 0 == 91 || is_number (labels_of host)
+
+-- the labels before a suffix of so many, if there are any
+abbrev pub before : ℕ → List (List ℕ) → Option (List ℕ)
+before n labels = if nat_le (length labels) n then None else Some (join_with_byte 46 (take (length labels - n) labels))
+
+-- the rest of a host: it without its public suffix and the dot before that
+abbrev pub rest : List Rule → List ℕ → Option (List ℕ)
+rest rules host = if has_no_name host then None else before (suffix_count rules (labels_of host)) (labels_of host)
+
+-- how the logic stores a list of rules
+abbrev pub rules_code : Coded (List Rule)
+rules_code = coded_list (code_by (Bool × List (List ℕ)) (coded× coded_bool (coded_list (coded_list coded_ℕ)))
+    (λ rule. (rule.exception, rule.labels)) (λ p. record { exception = p.0; labels = p.1 }) (λ _. refl))
