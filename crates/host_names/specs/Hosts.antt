@@ -1,6 +1,6 @@
 -- Which texts name a host, and when a host stands under a name.
-use Rattle.std.specs.Prelude.{ℕ, ◌==◌, ◌-◌, ◌&&◌, ◌||◌, Bool, true, false, not, nat_le, List, [], ◌∷◌, length, drop, Option, None, option_and_then, if◌then◌else◌}
-use Rattle.std.specs.List.{list_all, list_any, slice_split}
+use Rattle.std.specs.Prelude.{ℕ, ◌==◌, ◌-◌, ◌||◌, Bool, not, List, [], ◌∷◌, length, drop, Option, None, option_and_then, if◌then◌else◌}
+use Rattle.std.specs.List.{ends_with, list_all, list_any, slice_split}
 use Rattle.std.specs.Str.{bytes_eq}
 use Rattle.idna.specs.Uts46.{domain_to_ascii, if_passes}
 use Rattle.idna.specs.declared.deny_list.TheConstants.AsciiDenyList.{URL}
@@ -35,17 +35,19 @@ host_of text = if list_any is_sign text then None else option_and_then (if_passe
 abbrev pub last : {A : Type 0} → ℕ → List A → List A
 last n labels = drop (length labels - n) labels
 
--- label by label, each fits
-abbrev pub all_fit : (List ℕ → List ℕ → Bool) → List (List ℕ) → List (List ℕ) → Bool
-all_fit fits [] [] = true
-all_fit fits (wanted ∷ more) (label ∷ labels) = fits wanted label && all_fit fits more labels
-all_fit fits _ _ = false
-
--- there are at least as many labels as wanted, and the last ones fit those
-abbrev pub ends_with_labels : (List ℕ → List ℕ → Bool) → List (List ℕ) → List (List ℕ) → Bool
-ends_with_labels fits wanted labels =
-    nat_le (length wanted) (length labels) && all_fit fits wanted (last (length wanted) labels)
+-- the last labels are these
+abbrev pub end_with : List (List ℕ) → List (List ℕ) → Bool
+end_with labels these = ends_with bytes_eq labels these
 
 -- the host is that name, or stands under it: its last labels are those of the name
 abbrev pub is_under : List ℕ → List ℕ → Bool
-is_under name host = ends_with_labels bytes_eq (labels_of name) (labels_of host)
+is_under name host = end_with (labels_of host) (labels_of name)
+
+-- what stands behind each dot of a name
+abbrev pub behind_dots : List ℕ → List (List ℕ)
+behind_dots [] = []
+behind_dots (b ∷ name) = if is_dot b then name ∷ behind_dots name else behind_dots name
+
+-- the ends of a name by labels: all of it, and what stands behind each of its dots
+abbrev pub ends_of : List ℕ → List (List ℕ)
+ends_of name = name ∷ behind_dots name

@@ -5,9 +5,6 @@ use Rattle.cos_source.specs.Spaces.{is_space, trimmed}
 use Rattle.host_names.specs.Hosts.{host_of, labels_of}
 use Rattle.host_names.specs.Suffixes.{Rule}
 
-abbrev star : List ℕ
-star = codes "*"
-
 -- the text up to its first white space
 abbrev pub until_space : List ℕ → List ℕ
 until_space [] = []
@@ -15,21 +12,27 @@ until_space (b ∷ text) = if is_space b then [] else b ∷ until_space text
 
 -- a rule with the labels of a name
 abbrev pub named_rule : List ℕ → Rule
-named_rule name = record { exception = false; labels = labels_of name }
+named_rule name = record { exception = false; star = false; labels = labels_of name }
 
 -- a rule with `*` before the labels of a name
 abbrev pub star_rule : List ℕ → Rule
-star_rule name = record { exception = false; labels = star ∷ labels_of name }
+star_rule name = record { exception = false; star = true; labels = labels_of name }
+
+-- `*` alone
+abbrev pub any_label : Rule
+any_label = record { exception = false; star = true; labels = [] }
+
+abbrev pub exception_of : List ℕ → Rule
+exception_of name = record { exception = true; star = false; labels = labels_of name }
 
 -- the exception of a name, which has at least two labels
 abbrev pub exception_rule : List ℕ → Option Rule
-exception_rule name =
-    if nat_lt 1 (length (labels_of name)) then Some (record { exception = true; labels = labels_of name }) else None
+exception_rule name = if nat_lt 1 (length (labels_of name)) then Some (exception_of name) else None
 
 -- a rule that is no exception: `*`, or a host, or `*.` and a host
 abbrev pub plain_rule : List ℕ → Option Rule
 plain_rule text =
-    if bytes_eq text star then Some (record { exception = false; labels = star ∷ [] })
+    if bytes_eq text (codes "*") then Some any_label
     else if bytes_eq (take 2 text) (codes "*.") then option_map star_rule (host_of (drop 2 text))
     else option_map named_rule (host_of text)
 

@@ -1,39 +1,42 @@
 -- Public suffixes, by the format of the public suffix list; `*` stands for a first label alone.
-use Rattle.std.specs.Prelude.{ℕ, ◌==◌, ◌-◌, ◌&&◌, ◌||◌, Bool, false, nat_le, nat_lt, max, List, [], ◌∷◌, codes, length, take, filter, slice_index, Option, Some, None, if◌then◌else◌, refl}
+use Rattle.std.specs.Prelude.{ℕ, ◌==◌, ◌+◌, ◌-◌, ◌&&◌, ◌||◌, Bool, true, false, not, nat_le, nat_lt, max, List, [], ◌∷◌, length, take, filter, slice_index, Option, Some, None, if◌then◌else◌, refl}
 use Rattle.std.specs.Char.{is_ascii_digit}
 use Rattle.std.specs.Coded.{Coded, code_by, coded×, coded_bool, coded_list, coded_ℕ}
 use Rattle.std.specs.List.{list_all, join_with_byte}
-use Rattle.std.specs.Str.{bytes_eq}
-use Rattle.host_names.specs.Hosts.{ends_with_labels, is_filled, labels_of, last}
+use Rattle.host_names.specs.Hosts.{end_with, is_filled, labels_of, last}
 
--- a rule: its labels, of which the first may be `*`, and whether `!` makes it an exception
+-- a rule: its labels, whether `*` stands before them for one more, and whether `!` makes it an exception
 pub record Rule : Type 0 where
   pub exception : Bool
+  pub star : Bool
   pub labels : List (List ℕ)
 
--- `*` equals any label
-abbrev pub label_fits : List ℕ → List ℕ → Bool
-label_fits wanted label = bytes_eq wanted (codes "*") || bytes_eq wanted label
+-- how many labels it has, `*` among them
+abbrev pub rule_length : Rule → ℕ
+rule_length rule = if rule.star then length rule.labels + 1 else length rule.labels
 
--- the rule matches a host that has at least as many labels, and whose last labels equal the rule's
+-- the rule matches a host that has at least as many labels, and whose last labels equal the rule's; `*` equals any label
 abbrev pub matches : List (List ℕ) → Rule → Bool
-matches labels rule = ends_with_labels label_fits rule.labels labels
+matches labels rule = nat_le (rule_length rule) (length labels) && end_with labels rule.labels
 
 -- the greatest number of labels, 0 where there is no rule
 abbrev pub most_labels : List Rule → ℕ
 most_labels [] = 0
-most_labels (rule ∷ rules) = max (length rule.labels) (most_labels rules)
+most_labels (rule ∷ rules) = max (rule_length rule) (most_labels rules)
 
--- of the rules that match, the longest exception wins, and its first label isn't of the suffix; else the rule with most
--- labels; with none the rule is `*`
-abbrev pub count_by : List Rule → ℕ
-count_by matching =
-    let exceptions = most_labels (filter (λ rule. rule.exception) matching) in
-    if nat_lt 0 exceptions then exceptions - 1 else max 1 (most_labels matching)
+abbrev pub is_exception : Bool → Rule → Bool
+is_exception wanted rule = if wanted then rule.exception else not rule.exception
 
--- how many labels of a host are its public suffix
+-- how many labels the longest rule has that matches, among the exceptions or among the others
+abbrev pub longest : Bool → List Rule → List (List ℕ) → ℕ
+longest exceptions rules labels = most_labels (filter (λ rule. is_exception exceptions rule && matches labels rule) rules)
+
+-- how many labels of a host are its public suffix: of the rules that match, the longest exception wins, and its first label
+-- isn't of the suffix; else the rule with most labels; with none the rule is `*`
 abbrev pub suffix_count : List Rule → List (List ℕ) → ℕ
-suffix_count rules labels = count_by (filter (matches labels) rules)
+suffix_count rules labels =
+    let exception = longest true rules labels in
+    if nat_lt 0 exception then exception - 1 else max 1 (longest false rules labels)
 
 -- the public suffix of a host
 abbrev pub suffix : List Rule → List ℕ → List ℕ
@@ -59,5 +62,6 @@ rest rules host = if has_no_name host then None else before (suffix_count rules 
 
 -- how the logic stores a list of rules
 abbrev pub rules_code : Coded (List Rule)
-rules_code = coded_list (code_by (Bool × List (List ℕ)) (coded× coded_bool (coded_list (coded_list coded_ℕ)))
-    (λ rule. (rule.exception, rule.labels)) (λ p. record { exception = p.0; labels = p.1 }) (λ _. refl))
+rules_code = coded_list (code_by (Bool × (Bool × List (List ℕ))) (coded× coded_bool (coded× coded_bool (coded_list (coded_list coded_ℕ))))
+    (λ rule. (rule.exception, (rule.star, rule.labels)))
+    (λ p. record { exception = p.0; star = p.1.0; labels = p.1.1 }) (λ _. refl))

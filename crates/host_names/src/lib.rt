@@ -4,10 +4,13 @@
 //! `SuffixLines.antt` what the lines of a file of rules say.
 #![tactic(auto)]
 
+mod ends;
 mod host;
+mod line;
 mod suffixes;
 
-pub use host::Host;
+pub use ends::Ends;
+pub use host::{Host, is_under};
 pub use suffixes::{Suffixes, SuffixesRead};
 
 #[cfg(test)]

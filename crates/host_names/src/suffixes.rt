@@ -71,6 +71,80 @@ impl Suffixes {
         ensures rules { IfOk result (λ read. (host : List ℕ) → rest read.rules host ≡ rest (rules_of (lines_of bytes.now)) host) }
         ensures bad { IfOk result (λ read. read.bad ≡ bad_lines (numbered 1 (lines_of bytes.now))) }
     {
-        Err(AllocError)
+        let mut rules = Suffixes::none(alloc);
+        let mut bad = Numbers::new(alloc);
+        let mut lines = Lines::new(bytes);
+        'lines: while let Some(line) = lines.next() {
+            match read_line(alloc, line.bytes)? {
+                // `*` alone is what holds where no rule matches.
+                SpelledLine::Nothing | SpelledLine::Any => {}
+                SpelledLine::Named(sort, name) => rules.put(sort, name)?,
+                SpelledLine::Bad => bad.push(line.number)?,
+            }
+        }
+        Ok(SuffixesRead { rules, bad })
+    }
+
+    // Adds a rule.
+    fn put(&mut self, sort: RuleSort, name: Host) -> Result<(), AllocError>
+        ensures { OnOk result ((exceptions : Bool) → (labels : List (List ℕ)) →
+            longest exceptions self.new labels ≡ longest exceptions (named sort name ∷ self.old) labels) }
+    {
+        let kinds = match self.by_name.get(name.as_str()) {
+            Some(kinds) => kinds.with(sort),
+            None => RuleKinds::none().with(sort),
+        };
+        self.by_name.insert(name.into_string(), kinds)?;
+        Ok(())
+    }
+
+    // Whether a rule other than `*` has just the labels of this name, among the exceptions or among the others.
+    fn has_rule(&self, name: &str, exceptions: bool) -> bool
+        ensures { result ≡ list_any (is_rule_of exceptions (labels_of name.now)) self.now }
+    {
+        let kinds = self.kinds(name);
+        if exceptions {
+            return kinds.exception;
+        }
+        kinds.plain || self.has_star(name)
+    }
+
+    // How many labels the longest rule has that matches a host, among the exceptions or among the others; 0 for none.
+    fn longest(&self, host: &str, exceptions: bool) -> usize
+        ensures { result ≡ longest exceptions self.now (labels_of host.now) }
+    {
+        let mut count = label_count(host);
+        let mut ends = Ends::new(host);
+        'ends: while let Some(end) = ends.next() {
+            if self.has_rule(end, exceptions) {
+                return count;
+            }
+            count -= 1;
+        }
+        0
+    }
+
+    // How many labels of a host are its public suffix.
+    fn suffix_count(&self, host: &str) -> usize
+        ensures { result ≡ suffix_count self.now (labels_of host.now) }
+    {
+        let exception = self.longest(host, true);
+        if exception > 0 {
+            exception - 1
+        } else {
+            self.longest(host, false).max(1)
+        }
+    }
+
+    /// The rest of a host: it without its public suffix and the dot before that. There is none where the host is its public
+    /// suffix, is empty, is an address in brackets, or has a last label of digits alone. It takes no memory.
+    pub fn rest<'a>(&self, host: &'a Host) -> Option<&'a str>
+        ensures { option_copied result ≡ rest self.now host.now }
+    {
+        let text = host.as_str();
+        if has_no_name(text) {
+            return None;
+        }
+        before_labels(text, self.suffix_count(text))
     }
 }
