@@ -1,3 +1,7 @@
 mod LineEnds
 mod LastSpaces
-pub mod Passing
+mod Trims
+mod Cuts
+mod Numerals
+mod Fronts
+pub mod LinesMake

@@ -1,5 +1,8 @@
 pub mod Lines
+pub mod MadeOf
 pub mod Spaces
-pub mod Example
-pub mod Cursors
+pub mod Parts
+pub mod Numbers
+pub mod Classes
 pub mod Mark
+pub mod Example

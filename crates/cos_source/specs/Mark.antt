@@ -1,5 +1,5 @@
 -- The byte order mark that a file in UTF-8 may begin with (Unicode, 23.8 "Byte Order Mark").
-use Rattle.std.specs.Prelude.{ℕ, List, [], ◌∷◌, drop, length, if◌then◌else◌}
+use Rattle.std.specs.Prelude.{ℕ, List, [], ◌∷◌, drop, if◌then◌else◌}
 use Rattle.std.specs.Str.{bytes_eq}
 use Rattle.std.specs.Prelude.{take}
 

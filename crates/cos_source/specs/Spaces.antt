@@ -1,5 +1,5 @@
 -- White space within a line: space, tab, form feed and carriage return.
-use Rattle.std.specs.Prelude.{ℕ, ◌==◌, ◌||◌, Bool, List, [], ◌∷◌, if◌then◌else◌}
+use Rattle.std.specs.Prelude.{ℕ, ◌-◌, ◌==◌, ◌||◌, Bool, List, [], ◌∷◌, length, if◌then◌else◌}
 
 abbrev pub is_space : ℕ → Bool
 is_space b = b == 32 || b == 9 || b == 12 || b == 13
@@ -20,3 +20,12 @@ without_last_spaces (b ∷ bytes) = before_text b (without_last_spaces bytes)
 -- a text without the white space at both of its ends
 abbrev pub trimmed : List ℕ → List ℕ
 trimmed bytes = without_last_spaces (without_first_spaces bytes)
+
+-- how many bytes of white space a text begins with
+abbrev pub space_count : List ℕ → ℕ
+space_count text = length text - length (without_first_spaces text)
+
+-- what stands before the first white space, or all where there is none
+abbrev pub until_space : List ℕ → List ℕ
+until_space [] = []
+until_space (b ∷ bytes) = if is_space b then [] else b ∷ until_space bytes

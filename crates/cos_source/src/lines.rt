@@ -1,5 +1,6 @@
 ghost use Rattle.std.specs.Prelude.{◌≡◌, ◌<◌, ◌^◌, [], ◌∷◌, length, MatchOption};
 ghost use Rattle.cos_source.specs.Lines.{lines_of, numbered, without_cr};
+ghost use Rattle.cos_source.specs.MadeOf.{IsMadeOf};
 
 use memchr::memchr;
 use std::marker::Model;
@@ -33,10 +34,12 @@ impl<'a> Model for Lines<'a> {
 }
 
 impl<'a> Lines<'a> {
-    /// The lines of a source, which is shorter than 2^32 bytes. It takes no memory.
+    /// The lines of a source, which is shorter than 2^32 bytes. The lines and the line ends between them make it up. It
+    /// takes no memory.
     pub fn new(source: &'a [u8]) -> Lines<'a>
         requires { length source.now < 2 ^ 32 }
-        ensures { result ≡ numbered 1 (lines_of source.now) }
+        ensures lines { result ≡ numbered 1 (lines_of source.now) }
+        ensures whole { IsMadeOf (lines_of source.now) source.now }
     {
         Lines {
             rest: source,

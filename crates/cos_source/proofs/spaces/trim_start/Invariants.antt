@@ -1,9 +1,0 @@
-use Rattle.std.proofs.Common.{◌≡◌, length}
-use Rattle.cos_source.specs.Spaces.{without_first_spaces}
-use Rattle.cos_source.proofs.spaces.trim_start.Given as goal
-
-abbrev pub invariant-spaces : goal.invariant-spaces
-invariant-spaces l = without_first_spaces l.rest ≡ without_first_spaces l.fn.text
-
-abbrev pub decreases-spaces : goal.decreases-spaces
-decreases-spaces l = length l.rest
