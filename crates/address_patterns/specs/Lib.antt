@@ -1,2 +1,3 @@
 pub mod Pages
 pub mod Patterns
+pub mod Pieces

@@ -11,19 +11,29 @@ use Rattle.address_patterns.specs.declared.pattern.Begin.TheVariants.{Anywhere, 
 
 -- ---- the pattern of a text
 
--- what stands behind the leading sign; `|` at its end lets a match end only at the end of the address
-abbrev pub pattern_behind : Begin → List ℕ → AddressPattern
-pattern_behind begin text = let at_end = slice_index text (length text - 1) == 124 in record {
-  begin = begin;
-  at_end = at_end;
-  body = str_to_ascii_lowercase (if at_end then take (length text - 1) text else text);
-}
+-- where a match may begin, by the sign at the start
+abbrev pub begin_of : List ℕ → Begin
+begin_of text =
+    if bytes_eq (take 2 text) (codes "||") then Host else if bytes_eq (take 1 text) (codes "|") then Start else Anywhere
+
+-- what stands behind that sign
+abbrev pub behind_begin : List ℕ → List ℕ
+behind_begin text =
+    if bytes_eq (take 2 text) (codes "||") then drop 2 text else if bytes_eq (take 1 text) (codes "|") then drop 1 text else text
+
+-- a `|` at the end lets a match end only at the end of the address
+abbrev pub at_end_of : List ℕ → Bool
+at_end_of text = slice_index text (length text - 1) == 124
+
+abbrev pub before_end : List ℕ → List ℕ
+before_end text = if at_end_of text then take (length text - 1) text else text
 
 abbrev pub pattern_of : List ℕ → AddressPattern
-pattern_of text =
-    if bytes_eq (take 2 text) (codes "||") then pattern_behind Host (drop 2 text)
-    else if bytes_eq (take 1 text) (codes "|") then pattern_behind Start (drop 1 text)
-    else pattern_behind Anywhere text
+pattern_of text = record {
+  begin = begin_of text;
+  at_end = at_end_of (behind_begin text);
+  body = str_to_ascii_lowercase (before_end (behind_begin text));
+}
 
 -- ---- what it matches
 

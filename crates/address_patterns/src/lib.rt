@@ -6,7 +6,11 @@
 mod options;
 mod page;
 mod pattern;
+mod pieces;
 
 pub use options::HideOptions;
 pub use page::Page;
 pub use pattern::{AddressPattern, Begin};
+
+#[cfg(test)]
+mod tests;

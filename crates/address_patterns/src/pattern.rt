@@ -1,6 +1,9 @@
-ghost use Rattle.std.specs.Prelude.{◌≡◌, IfOk};
-ghost use Rattle.address_patterns.specs.Patterns.{pattern_of};
+ghost use Rattle.std.specs.Prelude.{◌≡◌, ◌≤◌, ◌==◌, ◌-◌, length, slice_index, IfOk};
+ghost use Rattle.address_patterns.specs.Patterns.{at_end_of, begin_of, behind_begin, before_end, matches, may_begin, pattern_of};
+ghost use Rattle.address_patterns.specs.Pieces.{first_of, left_of, starts_by};
 
+use crate::Page;
+use crate::pieces::{find_piece, piece};
 use listed::Text;
 use std::alloc::{AllocError, Global};
 
@@ -26,10 +29,105 @@ pub struct AddressPattern {
 }
 
 impl AddressPattern {
-    /// Reads a pattern. Each text is one.
+    /// Reads a pattern. Each text is one: `*` stands for any run of bytes, `^` for a border, `|` and `||` at the start and
+    /// `|` at the end say where it may begin and end.
     pub fn read(alloc: Global, text: &str) -> Result<AddressPattern, AllocError>
         ensures { IfOk result (λ pattern. pattern ≡ pattern_of text.now) }
     {
-        Err(AllocError)
+        let (begin, rest) = split_begin(text);
+        let (at_end, body) = split_end(rest);
+        let body = Text::lower(alloc, body)?;
+        Ok(AddressPattern {
+            begin,
+            at_end,
+            body,
+        })
     }
+
+    /// Whether the pattern matches the address of a page, letter case ignored. It takes no memory, and no more steps than
+    /// the pattern's length times the address's.
+    pub fn matches(&self, page: &Page) -> bool
+        ensures { result ≡ matches self.now page.now }
+    {
+        let mut found = self.first_piece(page);
+        'pieces: loop {
+            let Some((pattern, address)) = found else {
+                return false;
+            };
+            let Some((_, pattern)) = pattern.split_first() else {
+                return true;
+            };
+            found = find_piece(pattern, address, self.at_end);
+        }
+    }
+
+    // The first place where the pattern's first piece fits: what is left of the pattern and of the address behind it.
+    fn first_piece<'a>(&'a self, page: &'a Page) -> Option<(&'a [u8], &'a [u8])>
+        ensures { left_of result ≡ first_of self.now.at_end self.now.body (starts_by (may_begin self.now.begin page.now) 0 page.now.address) }
+    {
+        let pattern = self.body.as_str().as_bytes();
+        let address = page.address.as_str().as_bytes();
+        let mut place = 0;
+        'places: loop {
+            if may_begin(self.begin, page, place) {
+                let found = piece(pattern, &address[place..], self.at_end);
+                if found.is_some() {
+                    return found;
+                }
+            }
+            if place == address.len() {
+                return None;
+            }
+            place += 1;
+        }
+    }
+}
+
+// The leading sign of a pattern, and what stands behind it.
+fn split_begin(text: &str) -> (Begin, &str)
+    ensures begin { result.0 ≡ begin_of text.now }
+    ensures behind { result.1.now ≡ behind_begin text.now }
+{
+    if let Some(rest) = text.strip_prefix("||") {
+        (Begin::Host, rest)
+    } else if let Some(rest) = text.strip_prefix('|') {
+        (Begin::Start, rest)
+    } else {
+        (Begin::Anywhere, text)
+    }
+}
+
+// Whether `|` stands at the end of a text, and what stands before it.
+fn split_end(text: &str) -> (bool, &str)
+    ensures end { result.0 ≡ at_end_of text.now }
+    ensures before { result.1.now ≡ before_end text.now }
+{
+    match text.strip_suffix('|') {
+        Some(body) => (true, body),
+        None => (false, text),
+    }
+}
+
+// Whether a match may begin at this place of the address.
+fn may_begin(begin: Begin, page: &Page, place: usize) -> bool
+    requires { place ≤ length page.now.address }
+    ensures { result ≡ may_begin begin page.now place }
+{
+    match begin {
+        Begin::Anywhere => true,
+        Begin::Start => place == 0,
+        Begin::Host => {
+            let (from, to) = (page.host_from as usize, page.host_to as usize);
+            from < to
+                && (place == from || (from < place && place <= to && ends_with_dot(page, place)))
+        }
+    }
+}
+
+// Whether a dot stands before this place of the address.
+fn ends_with_dot(page: &Page, place: usize) -> bool
+    requires { place ≤ length page.now.address }
+    ensures { result ≡ (slice_index page.now.address (place - 1) == 46) }
+{
+    page.address.as_str().as_bytes()[..place].last() == Some(&b'.')
 }

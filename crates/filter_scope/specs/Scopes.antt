@@ -1,8 +1,9 @@
 -- Scopes: the items of a text of hosts, and the pages to which it applies (uBlock Origin wiki, "Static filter syntax").
 use Rattle.std.specs.Prelude.{ℕ, ◌==◌, ◌+◌, ◌-◌, ◌&&◌, ◌||◌, Bool, true, false, not, List, [], ◌∷◌, codes, length, take, drop, slice_index, Option, Some, None, option_map, if◌then◌else◌}
-use Rattle.std.specs.List.{list_all, list_any, slice_split}
+use Rattle.std.specs.List.{list_all, list_any}
 use Rattle.std.specs.Str.{bytes_eq}
-use Rattle.cos_source.specs.Spaces.{trimmed, without_first_spaces}
+use Rattle.cos_source.specs.Parts.{parts, placed}
+use Rattle.cos_source.specs.Spaces.{space_count, trimmed}
 use Rattle.host_names.specs.Hosts.{host_of, is_under}
 use Rattle.filter_scope.specs.declared.scope.Item.{Item}
 use Rattle.filter_scope.specs.declared.scope.Scope.{Scope}
@@ -32,29 +33,25 @@ item_of text =
     else if slice_index text 0 == 126 then option_map (item true) (target_of (drop 1 text))
     else option_map (item false) (target_of text)
 
--- how many bytes of white space a text begins with
-abbrev pub space_count : List ℕ → ℕ
-space_count text = length text - length (without_first_spaces text)
-
 -- an item before those that were read
 abbrev pub with_item : Item → ScopeRead → ScopeRead
 with_item i (read.Scope scope) = read.Scope (record { items = i ∷ scope.items })
 with_item i (read.BadHost at) = read.BadHost at
 
--- one text between separators, which begins at the place `at`, before what was read of those behind it
-abbrev pub by_item : ℕ → List ℕ → Option Item → ScopeRead → ScopeRead
-by_item at text None more = read.BadHost (at + space_count text)
-by_item at text (Some i) more = with_item i more
+-- one text between separators, with its place, before what was read of those behind it
+abbrev pub by_item : ℕ × List ℕ → Option Item → ScopeRead → ScopeRead
+by_item part None more = read.BadHost (part.0 + space_count part.1)
+by_item part (Some i) more = with_item i more
 
--- the texts between separators, of which the first begins at the place `at`; the first bad item decides
-abbrev pub items_from : ℕ → List (List ℕ) → ScopeRead
-items_from at [] = read.Scope (record { items = [] })
-items_from at (text ∷ texts) = by_item at text (item_of (trimmed text)) (items_from (at + length text + 1) texts)
+-- the texts between separators, with their places; the first bad item decides
+abbrev pub read_parts : List (ℕ × List ℕ) → ScopeRead
+read_parts [] = read.Scope (record { items = [] })
+read_parts (part ∷ more) = by_item part (item_of (trimmed part.1)) (read_parts more)
 
 -- a text of hosts, which are separated by that byte; an empty text has no items
 abbrev pub scope_of : ℕ → List ℕ → ScopeRead
 scope_of separator [] = read.Scope (record { items = [] })
-scope_of separator (b ∷ text) = items_from 0 (slice_split (λ c. c == separator) (b ∷ text))
+scope_of separator (b ∷ text) = read_parts (placed 0 (parts separator (b ∷ text)))
 
 -- ---- where it applies
 

@@ -3,6 +3,10 @@
 //! `specs/Scopes.antt` says what the items of such a text are, and where a scope applies.
 #![tactic(auto)]
 
+mod item;
 mod scope;
 
 pub use scope::{Item, Scope, ScopeRead, Target};
+
+#[cfg(test)]
+mod tests;

@@ -1,7 +1,11 @@
 ghost use Rattle.std.specs.Prelude.{◌≡◌, ◌⊎◌, [], IfOk};
-ghost use Rattle.filter_scope.specs.Scopes.{scope_of, is_generic};
+ghost use Rattle.std.specs.Option.{option_copied};
+ghost use Rattle.host_names.specs.Suffixes.{rest};
+ghost use Rattle.filter_scope.specs.Scopes.{applies, is_generic, item_matches, scope_of};
 
-use host_names::Host;
+use crate::item::read_item;
+use cos_source::Parts;
+use host_names::{Host, Suffixes, is_under};
 use listed::Listed;
 use std::alloc::{AllocError, Global};
 
@@ -23,6 +27,22 @@ pub struct Item {
     pub negated: bool,
     /// What it names.
     pub target: Target,
+}
+
+impl Item {
+    /// Whether the item names a page of this host, which has that rest; `~` aside.
+    pub fn matches(&self, host: &Host, rest: Option<&str>) -> bool
+        ensures { result ≡ item_matches host.now (option_copied rest.entry) self.now }
+    {
+        match &self.target {
+            Target::All => true,
+            Target::Host(name) => host.is_under(name),
+            Target::Entity(name) => match rest {
+                Some(rest) => is_under(rest, name.as_str()),
+                None => false,
+            },
+        }
+    }
 }
 
 /// On which pages a filter is used, by their hosts.
@@ -55,7 +75,44 @@ impl Scope {
         requires { (separator ≡ 44) ⊎ (separator ≡ 124) }
         ensures { IfOk result (λ read. read ≡ scope_of separator text.now) }
     {
-        Err(AllocError)
+        let mut items = Listed::new(alloc);
+        if text.is_empty() {
+            return Ok(ScopeRead::Scope(Scope { items }));
+        }
+        let mut parts = Parts::new(text, separator);
+        'parts: while let Some(part) = parts.next() {
+            let part = part.trimmed();
+            match read_item(alloc, part.text)? {
+                Some(item) => items.push(item)?,
+                None => return Ok(ScopeRead::BadHost(part.place)),
+            }
+        }
+        Ok(ScopeRead::Scope(Scope { items }))
+    }
+
+    /// Its items, in order.
+    pub fn items(&self) -> &[Item]
+        ensures { result.now ≡ self.now.items }
+    {
+        self.items.as_slice()
+    }
+
+    /// Whether the scope applies to a page of this host: no negated item matches it, and some other does or there is none.
+    pub fn applies(&self, host: &Host, rules: &Suffixes) -> bool
+        ensures { result ≡ applies self.now host.now (rest rules.now host.now) }
+    {
+        self.applies_by(host, rules.rest(host))
+    }
+
+    /// The same for a host whose rest is known.
+    pub fn applies_by(&self, host: &Host, rest: Option<&str>) -> bool
+        ensures { result ≡ applies self.now host.now (option_copied rest.entry) }
+    {
+        let items = self.items.as_slice();
+        if items.iter().any(|item| item.negated && item.matches(host, rest)) {
+            return false;
+        }
+        self.generic() || items.iter().any(|item| !item.negated && item.matches(host, rest))
     }
 
     /// Whether each of its items is negated, if it has any.

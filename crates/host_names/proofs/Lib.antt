@@ -1,4 +1,8 @@
-pub mod Cuts
 mod Examples
-mod Labels
+pub mod Holding
+pub mod Labels
 mod Names
+pub mod Spelled
+pub mod Tops
+pub mod Under
+pub mod Walks

@@ -1,16 +1,14 @@
 -- Which texts name a host, and when a host stands under a name.
 use Rattle.std.specs.Prelude.{ℕ, ◌==◌, ◌-◌, ◌||◌, Bool, not, List, [], ◌∷◌, length, drop, Option, None, option_and_then, if◌then◌else◌}
-use Rattle.std.specs.List.{ends_with, list_all, list_any, slice_split}
+use Rattle.std.specs.List.{ends_with, list_all, list_any}
 use Rattle.std.specs.Str.{bytes_eq}
+use Rattle.cos_source.specs.Parts.{parts}
 use Rattle.idna.specs.Uts46.{domain_to_ascii, if_passes}
 use Rattle.idna.specs.declared.deny_list.TheConstants.AsciiDenyList.{URL}
 
-abbrev pub is_dot : ℕ → Bool
-is_dot b = b == 46
-
 -- the labels of a name: what stands between its dots
 abbrev pub labels_of : List ℕ → List (List ℕ)
-labels_of name = slice_split is_dot name
+labels_of name = parts 46 name
 
 abbrev pub is_filled : List ℕ → Bool
 is_filled label = not (length label == 0)
@@ -46,7 +44,7 @@ is_under name host = end_with (labels_of host) (labels_of name)
 -- what stands behind each dot of a name
 abbrev pub behind_dots : List ℕ → List (List ℕ)
 behind_dots [] = []
-behind_dots (b ∷ name) = if is_dot b then name ∷ behind_dots name else behind_dots name
+behind_dots (b ∷ name) = if b == 46 then name ∷ behind_dots name else behind_dots name
 
 -- the ends of a name by labels: all of it, and what stands behind each of its dots
 abbrev pub ends_of : List ℕ → List (List ℕ)

@@ -1,14 +1,9 @@
 -- The lines of a file of public suffix rules.
 use Rattle.std.specs.Prelude.{ℕ, ◌==◌, ◌||◌, Bool, true, false, not, nat_lt, List, [], ◌∷◌, codes, length, take, drop, slice_index, Option, Some, None, option_map, option_and_then, if◌then◌else◌}
 use Rattle.std.specs.Str.{bytes_eq, is_utf8}
-use Rattle.cos_source.specs.Spaces.{is_space, trimmed}
+use Rattle.cos_source.specs.Spaces.{trimmed, until_space}
 use Rattle.host_names.specs.Hosts.{host_of, labels_of}
 use Rattle.host_names.specs.Suffixes.{Rule}
-
--- the text up to its first white space
-abbrev pub until_space : List ℕ → List ℕ
-until_space [] = []
-until_space (b ∷ text) = if is_space b then [] else b ∷ until_space text
 
 -- a rule with the labels of a name
 abbrev pub named_rule : List ℕ → Rule
@@ -64,10 +59,10 @@ with_rule nothing rules = rules
 with_rule (rule r) rules = r ∷ rules
 with_rule bad rules = rules
 
--- the rules of a file's lines, in order
-abbrev pub rules_of : List (List ℕ) → List Rule
+-- the rules of numbered lines, in order
+abbrev pub rules_of : List (ℕ × List ℕ) → List Rule
 rules_of [] = []
-rules_of (line ∷ lines) = with_rule (suffix_line line) (rules_of lines)
+rules_of (line ∷ lines) = with_rule (suffix_line line.1) (rules_of lines)
 
 abbrev pub with_bad : ℕ → SuffixLine → List ℕ → List ℕ
 with_bad number nothing numbers = numbers

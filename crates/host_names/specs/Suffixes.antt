@@ -1,9 +1,9 @@
 -- Public suffixes, by the format of the public suffix list; `*` stands for a first label alone.
 use Rattle.std.specs.Prelude.{ℕ, ◌==◌, ◌+◌, ◌-◌, ◌&&◌, ◌||◌, Bool, true, false, not, nat_le, nat_lt, max, List, [], ◌∷◌, length, take, filter, slice_index, Option, Some, None, if◌then◌else◌, refl}
-use Rattle.std.specs.Char.{is_ascii_digit}
 use Rattle.std.specs.Coded.{Coded, code_by, coded×, coded_bool, coded_list, coded_ℕ}
-use Rattle.std.specs.List.{list_all, join_with_byte}
-use Rattle.host_names.specs.Hosts.{end_with, is_filled, labels_of, last}
+use Rattle.std.specs.List.{list_any, join_with_byte}
+use Rattle.cos_source.specs.Numbers.{is_digits}
+use Rattle.host_names.specs.Hosts.{end_with, labels_of, last}
 
 -- a rule: its labels, whether `*` stands before them for one more, and whether `!` makes it an exception
 pub record Rule : Type 0 where
@@ -44,9 +44,7 @@ suffix rules host = join_with_byte 46 (last (suffix_count rules (labels_of host)
 
 -- the last label is of digits alone, at least one
 abbrev pub is_number : List (List ℕ) → Bool
-is_number [] = false
-is_number (label ∷ []) = is_filled label && list_all is_ascii_digit label
-is_number (label ∷ labels) = is_number labels
+is_number labels = list_any is_digits (last 1 labels)
 
 -- an empty host, an address in brackets, and one whose last label is a number
 abbrev pub has_no_name : List ℕ → Bool

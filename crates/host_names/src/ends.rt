@@ -1,9 +1,10 @@
-// The ends of a name by labels.
-ghost use Rattle.std.specs.Prelude.{◌≡◌, [], ◌∷◌, MatchOption};
-ghost use Rattle.host_names.specs.Hosts.{ends_of};
-ghost use Rattle.host_names.specs.Left.{ends_left};
+// The labels of a name, and the ends that it has by them.
+ghost use Rattle.std.specs.Prelude.{◌≡◌, ◌+◌, [], ◌∷◌, ◌++◌, length, MatchOption};
 ghost use Rattle.std.specs.Option.{option_copied};
+ghost use Rattle.host_names.specs.Hosts.{ends_of, labels_of};
+ghost use Rattle.host_names.specs.Left.{ends_left, labels_left};
 
+use cos_source::split_once;
 use std::marker::Model;
 
 /// The ends of a name: all of it, and what stands behind each of its dots, longest first. Contracts see those that are
@@ -36,17 +37,31 @@ impl<'a> Ends<'a> {
         ensures { MatchOption result ((self.old ≡ []) × (self.new ≡ [])) (λ end. self.old ≡ end.now ∷ self.new) }
     {
         let end = self.next?;
-        self.next = behind_dot(end);
+        self.next = split_once(end, b'.').1;
         Some(end)
     }
 }
 
-/// What stands behind the first dot of a name, if it has one.
-pub(crate) fn behind_dot(name: &str) -> Option<&str>
-    ensures { ends_of name.now ≡ name.now ∷ ends_left (option_copied result) }
+// How many labels a name has.
+pub(crate) fn label_count(name: &str) -> usize
+    ensures { result ≡ length (labels_of name.now) }
 {
-    match name.split_once('.') {
-        Some((_, behind)) => Some(behind),
-        None => None,
+    let bytes = name.as_bytes();
+    let mut count = 1;
+    'bytes: for byte in bytes {
+        if *byte == b'.' {
+            count += 1;
+        }
+    }
+    count
+}
+
+// The last label of a name, and what stands before its dot, if it has one.
+pub(crate) fn split_last(name: &str) -> (Option<&str>, &str)
+    ensures { labels_of name.now ≡ labels_left (option_copied result.0) ++ result.1.now ∷ [] }
+{
+    match name.rsplit_once('.') {
+        Some((front, label)) => (Some(front), label),
+        None => (None, name),
     }
 }

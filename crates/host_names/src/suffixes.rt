@@ -1,11 +1,17 @@
 // Public suffix rules.
-ghost use Rattle.std.specs.Prelude.{◌≡◌, ◌<◌, ◌^◌, ℕ, List, [], length, IfOk};
+ghost use Rattle.std.specs.Prelude.{◌≡◌, ◌<◌, ◌^◌, ℕ, Bool, List, [], ◌∷◌, length, IfOk, OnOk};
+ghost use Rattle.std.specs.List.{list_any};
 ghost use Rattle.std.specs.Option.{option_copied};
 ghost use Rattle.cos_source.specs.Lines.{lines_of, numbered};
-ghost use Rattle.host_names.specs.Suffixes.{rest};
-ghost use Rattle.host_names.specs.SuffixLines.{rules_of, bad_lines};
+ghost use Rattle.host_names.specs.Held.{is_whole, kinds_at, rule_by, with_kind};
+ghost use Rattle.host_names.specs.Hosts.{labels_of};
+ghost use Rattle.host_names.specs.Suffixes.{before, has_no_name, longest, rest, suffix_count};
+ghost use Rattle.host_names.specs.SuffixLines.{bad_lines, rules_of};
 
+use crate::ends::{Ends, label_count, split_last};
+use crate::line::{RuleSort, SpelledLine, read_line};
 use crate::Host;
+use cos_source::{Lines, is_digits, split_once};
 use indexmap::IndexMap;
 use listed::Numbers;
 use std::alloc::{AllocError, Global};
@@ -20,6 +26,21 @@ pub(crate) struct RuleKinds {
     pub(crate) star: bool,
     // The name is an exception.
     pub(crate) exception: bool,
+}
+
+impl RuleKinds {
+    // One more kind.
+    fn with(self, sort: RuleSort) -> RuleKinds
+        ensures { result ≡ with_kind sort self }
+    {
+        let mut kinds = self;
+        match sort {
+            RuleSort::Plain => kinds.plain = true,
+            RuleSort::Star => kinds.star = true,
+            RuleSort::Exception => kinds.exception = true,
+        }
+        kinds
+    }
 }
 
 /// Rules of public suffixes, by their names. Contracts see them as a list of rules.
@@ -68,7 +89,8 @@ impl Suffixes {
     pub fn read(alloc: Global, bytes: &[u8]) -> Result<SuffixesRead, AllocError>
         requires { length bytes.now < 2 ^ 32 }
         // Each host has the rest that the file's rules give it.
-        ensures rules { IfOk result (λ read. (host : List ℕ) → rest read.rules host ≡ rest (rules_of (lines_of bytes.now)) host) }
+        ensures rules { IfOk result (λ read. (host : List ℕ) → 
+            rest read.rules host ≡ rest (rules_of (numbered 1 (lines_of bytes.now))) host) }
         ensures bad { IfOk result (λ read. read.bad ≡ bad_lines (numbered 1 (lines_of bytes.now))) }
     {
         let mut rules = Suffixes::none(alloc);
@@ -76,8 +98,9 @@ impl Suffixes {
         let mut lines = Lines::new(bytes);
         'lines: while let Some(line) = lines.next() {
             match read_line(alloc, line.bytes)? {
-                // `*` alone is what holds where no rule matches.
-                SpelledLine::Nothing | SpelledLine::Any => {}
+                SpelledLine::Nothing => {}
+                // What holds where no rule matches.
+                SpelledLine::Any => {}
                 SpelledLine::Named(sort, name) => rules.put(sort, name)?,
                 SpelledLine::Bad => bad.push(line.number)?,
             }
@@ -85,28 +108,31 @@ impl Suffixes {
         Ok(SuffixesRead { rules, bad })
     }
 
-    // Adds a rule.
+    // Adds the rule of this sort with this name.
     fn put(&mut self, sort: RuleSort, name: Host) -> Result<(), AllocError>
         ensures { OnOk result ((exceptions : Bool) → (labels : List (List ℕ)) →
-            longest exceptions self.new labels ≡ longest exceptions (named sort name ∷ self.old) labels) }
+            longest exceptions self.new labels ≡ longest exceptions (rule_by sort name ∷ self.old) labels) }
     {
-        let kinds = match self.by_name.get(name.as_str()) {
-            Some(kinds) => kinds.with(sort),
-            None => RuleKinds::none().with(sort),
-        };
+        let kinds = kinds_at(&self.by_name, name.as_str()).with(sort);
         self.by_name.insert(name.into_string(), kinds)?;
         Ok(())
     }
 
-    // Whether a rule other than `*` has just the labels of this name, among the exceptions or among the others.
-    fn has_rule(&self, name: &str, exceptions: bool) -> bool
-        ensures { result ≡ list_any (is_rule_of exceptions (labels_of name.now)) self.now }
+    // Whether a rule has just as many labels as this end of a host and matches it, among the exceptions or the others.
+    fn has_rule(&self, end: &str, exceptions: bool) -> bool
+        ensures { result ≡ list_any (is_whole exceptions (labels_of end.now)) self.now }
     {
-        let kinds = self.kinds(name);
+        let kinds = kinds_at(&self.by_name, end);
         if exceptions {
             return kinds.exception;
         }
-        kinds.plain || self.has_star(name)
+        if kinds.plain {
+            return true;
+        }
+        match split_once(end, b'.').1 {
+            Some(behind) => kinds_at(&self.by_name, behind).star,
+            None => false,
+        }
     }
 
     // How many labels the longest rule has that matches a host, among the exceptions or among the others; 0 for none.
@@ -147,4 +173,38 @@ impl Suffixes {
         }
         before_labels(text, self.suffix_count(text))
     }
+}
+
+// Which rules a name has.
+fn kinds_at(by_name: &IndexMap<String, RuleKinds>, name: &str) -> RuleKinds
+    ensures { result ≡ kinds_at by_name.now name.now }
+{
+    match by_name.get(name) {
+        Some(kinds) => *kinds,
+        None => RuleKinds {
+            plain: false,
+            star: false,
+            exception: false,
+        },
+    }
+}
+
+// Whether a host is empty, an address in brackets, or has a last label of digits alone.
+fn has_no_name(host: &str) -> bool
+    ensures { result ≡ has_no_name host.now }
+{
+    host.is_empty() || host.starts_with('[') || is_digits(split_last(host).1.as_bytes())
+}
+
+// The labels of a host before the last ones, as many as that, if there are any.
+fn before_labels(host: &str, count: usize) -> Option<&str>
+    ensures { option_copied result ≡ before count (labels_of host.now) }
+{
+    let mut left = host;
+    let mut more = count;
+    'labels: while more > 0 {
+        left = split_last(left).0?;
+        more -= 1;
+    }
+    Some(left)
 }
