@@ -1,2 +1,4 @@
 pub mod Greedy
 pub mod Cuts
+pub mod LastByte
+pub mod Shorter

@@ -1,4 +1,4 @@
-ghost use Rattle.std.specs.Prelude.{◌≡◌, ◌≤◌, ◌==◌, ◌-◌, length, slice_index, IfOk};
+ghost use Rattle.std.specs.Prelude.{◌≡◌, ◌≤◌, length, IfOk};
 ghost use Rattle.address_patterns.specs.Patterns.{at_end_of, begin_of, behind_begin, before_end, matches, may_begin, pattern_of};
 ghost use Rattle.address_patterns.specs.Pieces.{first_of, left_of, starts_by};
 
@@ -90,7 +90,7 @@ fn split_begin(text: &str) -> (Begin, &str)
 {
     if let Some(rest) = text.strip_prefix("||") {
         (Begin::Host, rest)
-    } else if let Some(rest) = text.strip_prefix('|') {
+    } else if let Some(rest) = text.strip_prefix("|") {
         (Begin::Start, rest)
     } else {
         (Begin::Anywhere, text)
@@ -118,16 +118,10 @@ fn may_begin(begin: Begin, page: &Page, place: usize) -> bool
         Begin::Start => place == 0,
         Begin::Host => {
             let (from, to) = (page.host_from as usize, page.host_to as usize);
+            let address = page.address.as_str().as_bytes();
             from < to
-                && (place == from || (from < place && place <= to && ends_with_dot(page, place)))
+                && (place == from
+                    || (from < place && place <= to && address[place - 1] == b'.'))
         }
     }
-}
-
-// Whether a dot stands before this place of the address.
-fn ends_with_dot(page: &Page, place: usize) -> bool
-    requires { place ≤ length page.now.address }
-    ensures { result ≡ (slice_index page.now.address (place - 1) == 46) }
-{
-    page.address.as_str().as_bytes()[..place].last() == Some(&b'.')
 }

@@ -1,4 +1,5 @@
-ghost use Rattle.std.specs.Prelude.{◌≡◌, ◌⊎◌, [], IfOk};
+ghost use Rattle.std.specs.Prelude.{◌≡◌, ◌⊎◌, ◌&&◌, not, [], IfOk};
+ghost use Rattle.std.specs.List.{list_any};
 ghost use Rattle.std.specs.Option.{option_copied};
 ghost use Rattle.host_names.specs.Suffixes.{rest};
 ghost use Rattle.filter_scope.specs.Scopes.{applies, is_generic, item_matches, scope_of};
@@ -109,10 +110,7 @@ impl Scope {
         ensures { result ≡ applies self.now host.now (option_copied rest.entry) }
     {
         let items = self.items.as_slice();
-        if items.iter().any(|item| item.negated && item.matches(host, rest)) {
-            return false;
-        }
-        self.generic() || items.iter().any(|item| !item.negated && item.matches(host, rest))
+        !is_refused(items, host, rest) && (self.generic() || is_named(items, host, rest))
     }
 
     /// Whether each of its items is negated, if it has any.
@@ -121,4 +119,22 @@ impl Scope {
     {
         self.items.as_slice().iter().all(|item| item.negated)
     }
+}
+
+// Whether a negated item matches.
+fn is_refused(items: &[Item], host: &Host, rest: Option<&str>) -> bool
+    ensures { result ≡ list_any (λ i. i.negated && item_matches host.now (option_copied rest.entry) i) items.now }
+{
+    items
+        .iter()
+        .any(|item| item.negated && item.matches(host, rest))
+}
+
+// Whether an item that isn't negated matches.
+fn is_named(items: &[Item], host: &Host, rest: Option<&str>) -> bool
+    ensures { result ≡ list_any (λ i. not i.negated && item_matches host.now (option_copied rest.entry) i) items.now }
+{
+    items
+        .iter()
+        .any(|item| !item.negated && item.matches(host, rest))
 }
