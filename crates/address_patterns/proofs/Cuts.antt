@@ -1,5 +1,5 @@
 -- A pattern fits an address by cuts exactly where it does so byte by byte.
-use Rattle.std.proofs.Common.{◌≡◌, ◌∙◌, ◌++◌, ◌==◌, ◌&&◌, ◌||◌, ◌+◌, ℕ, suc, zero, Bool, true, false, cond, List, [], ◌∷◌, map, Option, Some, None, length, refl, ap, sym, subst, arith, eqb-true, true≢false}
+use Rattle.std.proofs.Common.{◌≡◌, ◌∙◌, ◌++◌, ◌==◌, ◌&&◌, ◌||◌, ◌+◌, ℕ, suc, zero, Bool, true, false, cond, List, [], ◌∷◌, map, Option, Some, None, length, refl, ap, ap₂, sym, subst, arith, eqb-true, true≢false}
 use Rattle.std.specs.Char.{to_ascii_lowercase}
 use Rattle.std.specs.List.{list_any}
 use Rattle.std.specs.Str.{bytes_eq, str_to_ascii_lowercase}
@@ -161,7 +161,7 @@ by_cuts closes (b ∷ pattern) v w e f =
     let cut = first_cut (item_of b) (map item_of pattern) v (is_empty w) e in
     let rest = by_cuts closes pattern cut.1 w cut.4 f in
     subst (λ l. fits_from closes (b ∷ pattern) l ≡ true) (sym (append_behind cut.0 cut.1 w) ∙ ap (λ l. l ++ w) (sym cut.2))
-      (by_front closes b pattern cut.0 (cut.1 ++ w) (subst (λ t. item_fits (item_of b) cut.0 t ≡ true) (and_empty cut.1 w) cut.3) rest)
+    (by_front closes b pattern cut.0 (cut.1 ++ w) (subst (λ t. item_fits (item_of b) cut.0 t ≡ true) (and_empty cut.1 w) cut.3) rest)
 
 -- ---- byte by byte, then by cuts
 
@@ -179,7 +179,7 @@ with_front closes item items front text e by = record {
   rest = by.rest;
   same = ap (λ l. front ++ l) by.same ∙ sym (append_behind front by.front by.rest);
   fit = has_first_cut item items front by.front (is_empty by.rest)
-    (subst (λ t. item_fits item front t ≡ true) (ap is_empty by.same ∙ sym (and_empty by.front by.rest)) e) by.fit;
+      (subst (λ t. item_fits item front t ≡ true) (ap is_empty by.same ∙ sym (and_empty by.front by.rest)) e) by.fit;
   ends = by.ends;
 }
 
@@ -222,41 +222,51 @@ cuts_are closes pattern text = both _ _ forward back
         let cut = cut_of (λ part. fits (map item_of pattern) part.0 (is_empty part.1) && may_end closes part.1) text e in
         let parts = and_parts (fits (map item_of pattern) cut.0 (is_empty cut.1)) (may_end closes cut.1) cut.3 in
         subst (λ l. fits_from closes pattern l ≡ true) (sym cut.2) (by_cuts closes pattern cut.0 cut.1 parts.0 parts.1)
+
     back : fits_from closes pattern text ≡ true → list_any (λ part. fits (map item_of pattern) part.0 (is_empty part.1) && may_end closes part.1) (cuts text) ≡ true
     back e =
         let by = to_cuts closes pattern text e in
         subst (λ l. list_any (λ part. fits (map item_of pattern) part.0 (is_empty part.1) && may_end closes part.1) (cuts l) ≡ true) (sym by.same)
-          (has_cut (λ part. fits (map item_of pattern) part.0 (is_empty part.1) && may_end closes part.1) by.front by.rest
-            (and_true (fits (map item_of pattern) by.front (is_empty by.rest)) (may_end closes by.rest) by.fit by.ends))
+        (has_cut (λ part. fits (map item_of pattern) part.0 (is_empty part.1) && may_end closes part.1) by.front by.rest
+        (and_true (fits (map item_of pattern) by.front (is_empty by.rest)) (may_end closes by.rest) by.fit by.ends))
 
 -- ---- the places where a match may begin
 
+zero_more : (place : ℕ) → place + 0 ≡ place
+zero_more place = omega arith
+
 starts_are : (passes : ℕ → Bool) (r : List ℕ → Bool) (place : ℕ) (text : List ℕ)
     → list_any (λ cut. passes (place + length cut.0) && r cut.1) (cuts text) ≡ list_any r (starts_by passes place text)
-starts_are passes r place [] = go (passes place)
+starts_are passes r place [] = ap (λ (n : ℕ). (passes n && r []) || false) (zero_more place) ∙ go (passes place)
   where
     go : (t : Bool) → ((t && r []) || false) ≡ list_any r (cond t ([] ∷ []) [])
     go true = refl
     go false = refl
 starts_are passes r place (b ∷ text) =
-    ap (λ more. (passes place && r (b ∷ text)) || more)
-      (any_map (λ cut. passes (place + length cut.0) && r cut.1) (λ cut. (b ∷ cut.0, cut.1)) (cuts text)
-      ∙ any_same (λ cut. passes (place + length (b ∷ cut.0)) && r cut.1) (λ cut. passes ((place + 1) + length cut.0) && r cut.1)
-        (λ cut. ap (λ n. passes n && r cut.1) (moved (length cut.0))) (cuts text)
-      ∙ starts_are passes r (place + 1) text)
+    ap (λ (n : ℕ). (passes n && r (b ∷ text)) || list_any (λ (cut : List ℕ × List ℕ). passes (place + length cut.0) && r cut.1) (map (λ (cut : List ℕ × List ℕ). (b ∷ cut.0, cut.1)) (cuts text))) (zero_more place)
+    ∙ ap (λ more. (passes place && r (b ∷ text)) || more)
+    (any_map (λ (cut : List ℕ × List ℕ). passes (place + length cut.0) && r cut.1) (λ (cut : List ℕ × List ℕ). (b ∷ cut.0, cut.1)) (cuts text)
+    ∙ any_same (λ (cut : List ℕ × List ℕ). passes (place + length (b ∷ cut.0)) && r cut.1) (λ (cut : List ℕ × List ℕ). passes ((place + 1) + length cut.0) && r cut.1)
+    (λ (cut : List ℕ × List ℕ). ap (λ n. passes n && r cut.1) (moved (length cut.0))) (cuts text)
+    ∙ starts_are passes r (place + 1) text)
     ∙ go (passes place)
   where
     moved : (n : ℕ) → place + suc n ≡ (place + 1) + n
     moved n = omega arith
+
     go : (t : Bool) → ((t && r (b ∷ text)) || list_any r (starts_by passes (place + 1) text)) ≡ list_any r (cond t ((b ∷ text) ∷ starts_by passes (place + 1) text) (starts_by passes (place + 1) text))
     go true = refl
     go false = refl
+
+none_more : (n : ℕ) → n ≡ 0 + n
+none_more n = omega arith
 
 -- a pattern matches an address exactly where it fits from the first place on where its first piece does
 pub matches_is : (pattern : AddressPattern) (page : Page)
     → matches pattern page ≡ verdict pattern.at_end (first_of pattern.at_end pattern.body (starts_by (may_begin pattern.begin page) 0 page.address))
 matches_is pattern page =
-    any_same _ (λ cut. may_begin pattern.begin page (0 + length cut.0) && fits_from pattern.at_end pattern.body cut.1)
-      (λ cut. ap (λ b. may_begin pattern.begin page (length cut.0) && b) (cuts_are pattern.at_end pattern.body cut.1)) (cuts page.address)
+    any_same (λ cut. may_begin pattern.begin page (length cut.0) && list_any (λ part. fits (map item_of pattern.body) part.0 (is_empty part.1) && may_end pattern.at_end part.1) (cuts cut.1))
+    (λ cut. may_begin pattern.begin page (0 + length cut.0) && fits_from pattern.at_end pattern.body cut.1)
+    (λ cut. ap₂ (λ (n : ℕ) (b : Bool). may_begin pattern.begin page n && b) (none_more (length cut.0)) (cuts_are pattern.at_end pattern.body cut.1)) (cuts page.address)
     ∙ starts_are (may_begin pattern.begin page) (fits_from pattern.at_end pattern.body) 0 page.address
     ∙ greedy pattern.at_end pattern.body (starts_by (may_begin pattern.begin page) 0 page.address) (starts_shorter (may_begin pattern.begin page) 0 page.address)

@@ -149,6 +149,7 @@ later_fails at_end (item ∷ pattern, t) later is e = subst (λ l. verdict at_en
   where
     pair : (item ∷ pattern, later.1) ≡ later
     pair = ap (λ l. (l, later.1)) (sym is.same)
+
     go : (front : List ℕ) → t ≡ front ++ later.1 → (b : Bool) → list_any (fits_from at_end pattern) (tails later.1) ≡ b → list_any (fits_from at_end pattern) (tails later.1) ≡ false
     go front cut false f = f
     go front cut true f = absurd (true≢false (sym (any_rest (fits_from at_end pattern) later.1 front f) ∙ ap (λ l. list_any (fits_from at_end pattern) (tails l)) (sym cut) ∙ e))

@@ -1,8 +1,9 @@
 -- What a piece leaves of a pattern is no longer than the pattern; and the places of an address, one by one.
-use Rattle.std.proofs.Common.{◌≡◌, ◌∙◌, ◌==◌, ◌+◌, ◌<◌, ◌≤◌, ℕ, suc, Bool, true, false, cond, List, [], ◌∷◌, Option, Some, None, option_and_then, length, drop, get_or, refl, ap, sym, subst, arith, drop-cons}
+use Rattle.std.proofs.Common.{◌≡◌, ◌∙◌, ◌==◌, ◌+◌, ◌<◌, ◌≤◌, ℕ, suc, Bool, true, false, cond, List, [], ◌∷◌, Option, Some, None, option_and_then, is_some, length, drop, get_or, refl, ap, sym, subst, arith, drop-cons}
+use Rattle.std.specs.Borrow.{Bor}
 use Rattle.std.specs.Option.{option_or}
 use Rattle.address_patterns.specs.Patterns.{may_end}
-use Rattle.address_patterns.specs.Pieces.{first_of, piece_of, starts_by, step}
+use Rattle.address_patterns.specs.Pieces.{first_of, left_of, piece_of, starts_by, step, tails}
 
 piece_shorter : (at_end : Bool) (pattern address : List ℕ) (left : List ℕ × List ℕ) → piece_of at_end pattern address ≡ Some left → length left.0 ≤ length pattern
 piece_shorter at_end [] address left e = go (may_end at_end address) e
@@ -56,35 +57,47 @@ module _ (at_end : Bool) (pattern : List ℕ) (passes : ℕ → Bool) (address :
       keep : (o : Option (List ℕ × List ℕ)) → option_or o None ≡ o
       keep None = refl
       keep (Some x) = refl
+
       go : (t : Bool) → first_of at_end pattern (cond t ([] ∷ []) []) ≡ cond t (piece_of at_end pattern []) None
       go true = keep (piece_of at_end pattern [])
       go false = refl
 
   -- where the pattern's first piece fits at a place that passes, that is the first one
-  pub found_here : (found : Option (List ℕ × List ℕ)) (left : List ℕ × List ℕ) → passes place ≡ true → found ≡ Some left → found ≡ piece_of at_end pattern (drop place address)
-      → found ≡ first_of at_end pattern (starts_by passes place (drop place address))
-  found_here found left p s e = go (drop place address) e
+  pub found_here : (found : Option (Bor (List ℕ) × Bor (List ℕ))) → is_some found ≡ true → left_of found ≡ cond (passes place) (piece_of at_end pattern (drop place address)) None
+      → left_of found ≡ first_of at_end pattern (starts_by passes place (drop place address))
+  found_here None s e = let no : false ≡ true = s in cc
+  found_here (Some x) s e = go (drop place address) e
     where
-      go : (rest : List ℕ) → found ≡ piece_of at_end pattern rest → found ≡ first_of at_end pattern (starts_by passes place rest)
-      go [] f = sym (last_place ∙ ap (λ t. cond t (piece_of at_end pattern []) None) p ∙ sym f)
-      go (b ∷ rest) f =
-          sym (next_place b rest ∙ ap (λ t. option_or (cond t (piece_of at_end pattern (b ∷ rest)) None) (first_of at_end pattern (starts_by passes (place + 1) rest))) p
-            ∙ ap (λ o. option_or o (first_of at_end pattern (starts_by passes (place + 1) rest))) (sym f ∙ s) ∙ sym s)
+      go : (rest : List ℕ) → left_of (Some x) ≡ cond (passes place) (piece_of at_end pattern rest) None → left_of (Some x) ≡ first_of at_end pattern (starts_by passes place rest)
+      go [] f = f ∙ sym last_place
+      go (b ∷ rest) f = ap (λ o. option_or o (first_of at_end pattern (starts_by passes (place + 1) rest))) f ∙ sym (next_place b rest)
 
   -- else the places behind it decide
   pub not_here : cond (passes place) (piece_of at_end pattern (drop place address)) None ≡ None → place < length address
       → first_of at_end pattern (starts_by passes place (drop place address)) ≡ first_of at_end pattern (starts_by passes (place + 1) (drop (place + 1) address))
   not_here e within =
       let cut : drop place address ≡ get_or address place 0 ∷ drop (suc place) address = drop-cons address place 0 within in
-      let same : drop (suc place) address ≡ drop (place + 1) address = ap (λ n. drop n address) (omega arith) in
+      let next : suc place ≡ place + 1 = omega arith in
+      let same : drop (suc place) address ≡ drop (place + 1) address = ap (λ (n : ℕ). drop n address) next in
       ap (λ (l : List ℕ). first_of at_end pattern (starts_by passes place l)) cut
       ∙ next_place (get_or address place 0) (drop (suc place) address)
       ∙ ap (λ o. option_or o (first_of at_end pattern (starts_by passes (place + 1) (drop (suc place) address))))
-        (ap (λ (l : List ℕ). cond (passes place) (piece_of at_end pattern l) None) (sym cut) ∙ e)
+      (ap (λ (l : List ℕ). cond (passes place) (piece_of at_end pattern l) None) (sym cut) ∙ e)
       ∙ ap (λ (l : List ℕ). first_of at_end pattern (starts_by passes (place + 1) l)) same
 
   pub none_at_end : cond (passes place) (piece_of at_end pattern (drop place address)) None ≡ None → drop place address ≡ []
       → None ≡ first_of at_end pattern (starts_by passes place (drop place address))
   none_at_end e none =
       sym (ap (λ (l : List ℕ). first_of at_end pattern (starts_by passes place l)) none ∙ last_place
-        ∙ ap (λ (l : List ℕ). cond (passes place) (piece_of at_end pattern l) None) (sym none) ∙ e)
+      ∙ ap (λ (l : List ℕ). cond (passes place) (piece_of at_end pattern l) None) (sym none) ∙ e)
+
+pub none_left : (found : Option (Bor (List ℕ) × Bor (List ℕ))) → is_some found ≡ false → left_of found ≡ None
+none_left None e = refl
+none_left (Some x) e = let no : true ≡ false = e in cc
+
+-- where a piece fits at the front of a text, that is its first place there
+pub first_tail : (at_end : Bool) (pattern address : List ℕ) (found : Option (Bor (List ℕ) × Bor (List ℕ))) → is_some found ≡ true → left_of found ≡ piece_of at_end pattern address
+    → left_of found ≡ first_of at_end pattern (tails address)
+first_tail at_end pattern address None s e = let no : false ≡ true = s in cc
+first_tail at_end pattern [] (Some x) s e = ap (λ o. option_or o None) e
+first_tail at_end pattern (b ∷ address) (Some x) s e = ap (λ o. option_or o (first_of at_end pattern (tails address))) e

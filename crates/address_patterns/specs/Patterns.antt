@@ -90,5 +90,5 @@ may_end at_end rest = not at_end || is_empty rest
 abbrev pub matches : AddressPattern → Page → Bool
 matches pattern page =
     list_any (λ cut. may_begin pattern.begin page (length cut.0)
-      && list_any (λ part. fits (map item_of pattern.body) part.0 (is_empty part.1) && may_end pattern.at_end part.1) (cuts cut.1))
+    && list_any (λ part. fits (map item_of pattern.body) part.0 (is_empty part.1) && may_end pattern.at_end part.1) (cuts cut.1))
     (cuts page.address)

@@ -30,7 +30,10 @@ impl Page {
     {
         let (host_from, host_to) = host_places(url)?;
         Ok(Page {
-            address: Text::of(alloc, url.slice(Position::BeforeScheme, Position::AfterQuery))?,
+            address: Text::of(
+                alloc,
+                url.slice(Position::BeforeScheme, Position::AfterQuery),
+            )?,
             host: host_of(alloc, url)?,
             host_from,
             host_to,

@@ -1,6 +1,6 @@
-ghost use Rattle.std.specs.Prelude.{◌≡◌, ◌≤◌, length, IfOk};
+ghost use Rattle.std.specs.Prelude.{◌≡◌, ◌≤◌, drop, length, if◌then◌else◌, IfOk};
 ghost use Rattle.address_patterns.specs.Patterns.{at_end_of, begin_of, behind_begin, before_end, matches, may_begin, pattern_of};
-ghost use Rattle.address_patterns.specs.Pieces.{first_of, left_of, starts_by};
+ghost use Rattle.address_patterns.specs.Pieces.{first_of, left_of, piece_of, starts_by};
 
 use crate::Page;
 use crate::pieces::{find_piece, piece};
@@ -65,20 +65,31 @@ impl AddressPattern {
     fn first_piece<'a>(&'a self, page: &'a Page) -> Option<(&'a [u8], &'a [u8])>
         ensures { left_of result ≡ first_of self.now.at_end self.now.body (starts_by (may_begin self.now.begin page.now) 0 page.now.address) }
     {
-        let pattern = self.body.as_str().as_bytes();
-        let address = page.address.as_str().as_bytes();
+        let end = page.address.as_str().len();
         let mut place = 0;
         'places: loop {
-            if may_begin(self.begin, page, place) {
-                let found = piece(pattern, &address[place..], self.at_end);
-                if found.is_some() {
-                    return found;
-                }
+            let found = self.piece_at(page, place);
+            if found.is_some() {
+                return found;
             }
-            if place == address.len() {
+            if place == end {
                 return None;
             }
             place += 1;
+        }
+    }
+
+    // The pattern's first piece at a place of the address, where a match may begin there.
+    fn piece_at<'a>(&'a self, page: &'a Page, place: usize) -> Option<(&'a [u8], &'a [u8])>
+        requires { place ≤ length page.now.address }
+        ensures { left_of result ≡ (if may_begin self.now.begin page.now place then piece_of self.now.at_end self.now.body (drop place page.now.address) else None) }
+    {
+        let pattern = self.body.as_str().as_bytes();
+        let address = page.address.as_str().as_bytes();
+        if may_begin(self.begin, page, place) {
+            piece(pattern, &address[place..], self.at_end)
+        } else {
+            None
         }
     }
 }
@@ -120,8 +131,7 @@ fn may_begin(begin: Begin, page: &Page, place: usize) -> bool
             let (from, to) = (page.host_from as usize, page.host_to as usize);
             let address = page.address.as_str().as_bytes();
             from < to
-                && (place == from
-                    || (from < place && place <= to && address[place - 1] == b'.'))
+                && (place == from || (from < place && place <= to && address[place - 1] == b'.'))
         }
     }
 }

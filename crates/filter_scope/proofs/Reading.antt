@@ -101,12 +101,14 @@ entity_text text name e =
   where
     len : length (name ++ codes ".*") - 2 ≡ length name
     len = omega (arith, length-append name (codes ".*"))
+
     star : ends_with_star (name ++ codes ".*") ≡ true
     star = rw (len, drop_front name) refl
       where
         drop_front : (l : List ℕ) → drop (length l) (l ++ codes ".*") ≡ codes ".*"
         drop_front [] = refl
         drop_front (x ∷ l) = drop_front l
+
     front : take (length (name ++ codes ".*") - 2) (name ++ codes ".*") ≡ name
     front = rw len (take_front name)
       where
@@ -121,7 +123,7 @@ no_entity text none = go (ends_with_star text) refl
     go false e = refl
     go true e =
         absurd (none (take (length text - 2) text) (sym (take-append-drop (length text - 2) text)
-          ∙ ap (λ (l : List ℕ). take (length text - 2) text ++ l) ((bytes_eq-Decides (drop (length text - 2) text) (codes ".*")).0 e)))
+        ∙ ap (λ (l : List ℕ). take (length text - 2) text ++ l) ((bytes_eq-Decides (drop (length text - 2) text) (codes ".*")).0 e)))
 
 -- a text without `.*` at its end names a host
 pub host_text : (text : List ℕ) → ((front : List ℕ) → text ≢ front ++ codes ".*") → option_map Host (host_of text) ≡ target_of text

@@ -43,7 +43,11 @@ fn scopes_apply_by_labels(rt: HostRuntime) -> Result<(), Fail> {
         ("B\u{FC}cher.example", "xn--bcher-kva.example", true),
     ];
     for (text, host, expected) in rows {
-        assert_eq!(rt; applies(alloc, text, host)?, Some(expected), "{text} on {host}");
+        assert_eq!(rt;
+            applies(alloc, text, host)?,
+            Some(expected),
+            "{text} on {host}"
+        );
     }
     Ok(())
 }
@@ -70,7 +74,12 @@ fn the_first_bad_item_is_placed(rt: HostRuntime) -> Result<(), Fail> {
             ScopeRead::BadHost(at) => assert_eq!(rt; at, expected, "{text}"),
         }
     }
-    for (text, generic) in [("", true), ("~a.com", true), ("*", false), ("~a.com,b.*", false)] {
+    for (text, generic) in [
+        ("", true),
+        ("~a.com", true),
+        ("*", false),
+        ("~a.com,b.*", false),
+    ] {
         match Scope::read(alloc, text, b',')? {
             ScopeRead::Scope(scope) => assert_eq!(rt; scope.generic(), generic, "{text}"),
             ScopeRead::BadHost(_) => assert!(rt; false, "{text} is bad"),

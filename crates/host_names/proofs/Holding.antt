@@ -65,14 +65,18 @@ module _ {A : Type 0} where
       go : (t : Bool) → bytes_eq (string_bytes key) (string_bytes e.0) ≡ t
           → top f (rules_in (insert_entry string_eq es key (with_kind sort (kinds_or_none (lookup (λ k. bytes_eq (string_bytes key) (string_bytes k)) es))))) ≡ max (f (rule_by sort (string_bytes key))) (top f (rules_in es))
           → top f (rules_in (cond t ((e.0, with_kind sort (kinds_or_none (cond t (Some e.1) (lookup (λ k. bytes_eq (string_bytes key) (string_bytes k)) es)))) ∷ es)
-            (e ∷ insert_entry string_eq es key (with_kind sort (kinds_or_none (cond t (Some e.1) (lookup (λ k. bytes_eq (string_bytes key) (string_bytes k)) es)))))))
+          (e ∷ insert_entry string_eq es key (with_kind sort (kinds_or_none (cond t (Some e.1) (lookup (λ k. bytes_eq (string_bytes key) (string_bytes k)) es)))))))
           ≡ max (f (rule_by sort (string_bytes key))) (top f (rules_at (string_bytes e.0) e.1 ++ rules_in es))
       go true same more =
           let names : string_bytes key ≡ string_bytes e.0 = (bytes_eq-Decides (string_bytes key) (string_bytes e.0)).0 same in
           rw names (omega (arith, top_append f (rules_at (string_bytes e.0) (with_kind sort e.1)) (rules_in es), top_append f (rules_at (string_bytes e.0) e.1) (rules_in es), kinds_with f sort (string_bytes e.0) e.1))
       go false other more =
-          omega (arith, more, top_append f (rules_at (string_bytes e.0) e.1) (rules_in es),
-            top_append f (rules_at (string_bytes e.0) e.1) (rules_in (insert_entry string_eq es key (with_kind sort (kinds_or_none (lookup (λ k. bytes_eq (string_bytes key) (string_bytes k)) es))))))
+          omega (
+            arith,
+            more,
+            top_append f (rules_at (string_bytes e.0) e.1) (rules_in es),
+            top_append f (rules_at (string_bytes e.0) e.1) (rules_in (insert_entry string_eq es key (with_kind sort (kinds_or_none (lookup (λ k. bytes_eq (string_bytes key) (string_bytes k)) es))))),
+          )
 
   -- after the rule of a name is put in, the longest one that matches is that of the rules with it
   pub longest_put : (sort : RuleSort) (key : String A) (es : List (String A × RuleKinds)) (exceptions : Bool) (labels : List (List ℕ))
@@ -121,6 +125,7 @@ same_labels key name = go (bytes_eq name key) refl (length (labels_of key) == le
     by_under e (inl same) = same
     by_under e (inr (front, cut)) =
         absurd (omega (arith, e, ap length (ap labels_of cut ∙ labels_cut front key), length-append (labels_of front) (labels_of key), some_length front))
+
     go : (t : Bool) → bytes_eq name key ≡ t → (u : Bool) → (length (labels_of key) == length (labels_of name) && end_with (labels_of name) (labels_of key)) ≡ u → u ≡ t
     go true e true f = refl
     go false e false f = refl

@@ -22,6 +22,7 @@ longest_top exceptions (r ∷ rules) labels = go (is_exception exceptions r && m
   where
     rest : List Rule
     rest = filter (λ rule. is_exception exceptions rule && matches labels rule) rules
+
     go : (t : Bool) → most_labels (filter (λ rule. is_exception exceptions rule && matches labels rule) rules) ≡ top (weight exceptions labels) rules
         → most_labels (cond t (r ∷ filter (λ rule. is_exception exceptions rule && matches labels rule) rules) (filter (λ rule. is_exception exceptions rule && matches labels rule) rules))
         ≡ max (cond t (rule_length r) 0) (top (weight exceptions labels) rules)
@@ -115,7 +116,7 @@ pub longest_more : (exceptions : Bool) (label : List ℕ) (labels : List (List �
 longest_more exceptions label labels rules =
     longest_top exceptions rules (label ∷ labels)
     ∙ top_step (weight exceptions (label ∷ labels)) (weight exceptions labels) (length (label ∷ labels)) (is_whole exceptions (label ∷ labels))
-      (weight_more exceptions label labels) (λ r. omega (arith, weight_within exceptions labels r)) rules
+    (weight_more exceptions label labels) (λ r. omega (arith, weight_within exceptions labels r)) rules
     ∙ ap (cond (list_any (is_whole exceptions (label ∷ labels)) rules) (length (label ∷ labels))) (sym (longest_top exceptions rules labels))
 
 pub longest_none : (exceptions : Bool) (rules : List Rule) → longest exceptions rules [] ≡ 0

@@ -21,9 +21,11 @@ under_is name host e = go (ends_are (labels_of name) (labels_of host) e).0 (ends
   where
     go : (front : List (List ℕ)) → labels_of host ≡ front ++ labels_of name → (host ≡ name) ⊎ ((f : List ℕ) × (host ≡ f ++ 46 ∷ name))
     go [] same = inl (sym (joined host) ∙ ap (join_with_byte 46) same ∙ joined name)
-    go (label ∷ front) same = inr (join_with_byte 46 (label ∷ front),
+    go (label ∷ front) same = inr (
+      join_with_byte 46 (label ∷ front),
       sym (joined host) ∙ ap (join_with_byte 46) same ∙ join_append (label ∷ front) (labels_of name) (λ e. cc) (some_labels name)
-      ∙ ap (λ n. join_with_byte 46 (label ∷ front) ++ 46 ∷ n) (joined name))
+          ∙ ap (λ n. join_with_byte 46 (label ∷ front) ++ 46 ∷ n) (joined name),
+    )
 
 pub under_itself : (name : List ℕ) → is_under name name ≡ true
 under_itself name = ends_behind [] (labels_of name)
@@ -56,13 +58,14 @@ under_front (b ∷ front) name = go (slice_index (b ∷ front) (length front) ==
         let some : (length (b ∷ front) == 0) ≡ false = ne_eqb (length (b ∷ front)) 0 (λ e. omega (arith, e)) in
         let place : length (b ∷ front) - 1 ≡ length front = omega arith in
         rw (some, place) refl
+
     go : (t : Bool) → (slice_index (b ∷ front) (length front) == 46) ≡ t → (u : Bool) → is_under name ((b ∷ front) ++ name) ≡ u → u ≡ t
     go true e true f = refl
     go false e false f = refl
     go true e false f =
         let dot : slice_index (b ∷ front) (length front) ≡ 46 = eqb-true _ 46 e in
         let whole : ((b ∷ front) ++ name) ≡ take (length front) (b ∷ front) ++ 46 ∷ name =
-            ap (λ l. l ++ name) (split_end b front ∙ ap (λ d. take (length front) (b ∷ front) ++ d ∷ []) dot) ∙ join_dot (take (length front) (b ∷ front)) name in
+        ap (λ l. l ++ name) (split_end b front ∙ ap (λ d. take (length front) (b ∷ front) ++ d ∷ []) dot) ∙ join_dot (take (length front) (b ∷ front)) name in
         sym f ∙ ap (is_under name) whole ∙ under_behind (take (length front) (b ∷ front)) name
     go false e true f = absurd (by (under_is name ((b ∷ front) ++ name) f))
       where
@@ -100,6 +103,7 @@ under_ends name host = go (is_under name host) refl (list_any (bytes_eq name) (e
             or_true : (a b : Bool) → b ≡ true → (a || b) ≡ true
             or_true true b g = refl
             or_true false b g = g
+
             behind_front : (l : List ℕ) → list_any (bytes_eq name) (behind_dots (l ++ 46 ∷ name)) ≡ true
             behind_front [] = rw ((bytes_eq-Decides name name).1 refl) refl
             behind_front (b ∷ l) = at (b == 46) (behind_front l)
@@ -122,6 +126,7 @@ under_ends name host = go (is_under name host) refl (list_any (bytes_eq name) (e
                 let same : name ≡ l = (bytes_eq-Decides name l).0 i in
                 ([], ap (λ d. d ∷ l) dot ∙ ap (λ k. 46 ∷ k) (sym same))
             at true h false i g more = let m = more (sym (ap (λ t. t || list_any (bytes_eq name) (behind_dots l)) i) ∙ g) in (b ∷ m.0, ap (λ k. b ∷ k) m.1)
+
         of_ends : (l : List ℕ) → list_any (bytes_eq name) (ends_of l) ≡ true → is_under name l ≡ true
         of_ends l g = by (bytes_eq name l) refl g
           where

@@ -40,13 +40,13 @@ module _ (exceptions : Bool) (rules : List Rule) (total count : ℕ) (ends : Lis
           let rest : more ≡ behind_dots name = let h : end ∷ more ≡ name ∷ behind_dots name = sym e ∙ f in cc in
           let first : labels_of name ≡ before_dot 46 name ∷ labels_left (behind 46 name) = labels_at_first name in
           let none_here : list_any (is_whole exceptions (before_dot 46 name ∷ labels_left (behind 46 name))) rules ≡ false =
-              ap (λ labels. list_any (is_whole exceptions labels) rules) (sym first ∙ ap labels_of (sym same)) ∙ none in
+          ap (λ labels. list_any (is_whole exceptions labels) rules) (sym first ∙ ap labels_of (sym same)) ∙ none in
           record {
             name = behind 46 name;
             ends_are = rest ∙ behind_dots_left name;
             count_is = omega (arith, n ∙ ap length first);
             longest_is = l ∙ ap (longest exceptions rules) first ∙ longest_more exceptions (before_dot 46 name) (labels_left (behind 46 name)) rules
-              ∙ ap (λ t. cond t (length (before_dot 46 name ∷ labels_left (behind 46 name))) (longest exceptions rules (labels_left (behind 46 name)))) none_here;
+                ∙ ap (λ t. cond t (length (before_dot 46 name ∷ labels_left (behind 46 name))) (longest exceptions rules (labels_left (behind 46 name)))) none_here;
           }
 
   pub stops : LeftOf exceptions rules total count ends → ends ≡ end ∷ more → list_any (is_whole exceptions (labels_of end)) rules ≡ true → count ≡ total
@@ -58,10 +58,10 @@ module _ (exceptions : Bool) (rules : List Rule) (total count : ℕ) (ends : Lis
           let same : end ≡ name = let h : end ∷ more ≡ name ∷ behind_dots name = sym e ∙ f in cc in
           let first : labels_of name ≡ before_dot 46 name ∷ labels_left (behind 46 name) = labels_at_first name in
           let here : list_any (is_whole exceptions (before_dot 46 name ∷ labels_left (behind 46 name))) rules ≡ true =
-              ap (λ labels. list_any (is_whole exceptions labels) rules) (sym first ∙ ap labels_of (sym same)) ∙ some in
+          ap (λ labels. list_any (is_whole exceptions labels) rules) (sym first ∙ ap labels_of (sym same)) ∙ some in
           n ∙ ap length first
           ∙ sym (l ∙ ap (longest exceptions rules) first ∙ longest_more exceptions (before_dot 46 name) (labels_left (behind 46 name)) rules
-            ∙ ap (λ t. cond t (length (before_dot 46 name ∷ labels_left (behind 46 name))) (longest exceptions rules (labels_left (behind 46 name)))) here)
+          ∙ ap (λ t. cond t (length (before_dot 46 name ∷ labels_left (behind 46 name))) (longest exceptions rules (labels_left (behind 46 name)))) here)
 
 pub none_left : (exceptions : Bool) (rules : List Rule) (total count : ℕ) (ends : List (List ℕ)) → LeftOf exceptions rules total count ends → ends ≡ [] → 0 ≡ total
 none_left exceptions rules total count ends left e = go left.name left.ends_are left.longest_is
@@ -112,12 +112,14 @@ any_alike old more = record { exception = exception; other = other }
   where
     exception : (labels : List (List ℕ)) → longest true (old ++ more) labels ≡ longest true (old ++ any_label ∷ more) labels
     exception labels = omega (arith, longest_append true old more labels, longest_append true old (any_label ∷ more) labels, longest_cons true any_label more labels)
+
     one : (labels : List (List ℕ)) → weight false labels any_label ≤ 1
     one labels = go (nat_le 1 (length labels) && end_with labels [])
       where
         go : (t : Bool) → cond t 1 0 ≤ 1
         go true = omega arith
         go false = omega arith
+
     other : (labels : List (List ℕ)) → max 1 (longest false (old ++ more) labels) ≡ max 1 (longest false (old ++ any_label ∷ more) labels)
     other labels = omega (arith, longest_append false old more labels, longest_append false old (any_label ∷ more) labels, longest_cons false any_label more labels, one labels)
 
@@ -135,7 +137,7 @@ module _ (read total : List Rule) (line : ℕ × List ℕ) (lines more : List (�
       → AreAlike (read ++ with_rule meaning (rules_of more)) total
   after_line meaning e f h =
       through (read ++ with_rule meaning (rules_of more)) (read ++ rules_of lines) total
-        (same_alike _ _ (ap (λ (rules : List Rule). read ++ rules) (sym (opened line lines more meaning e f)))) h
+      (same_alike _ _ (ap (λ (rules : List Rule). read ++ rules) (sym (opened line lines more meaning e f)))) h
 
   pub after_nothing : lines ≡ line ∷ more → nothing ≡ suffix_line line.1 → AreAlike (read ++ rules_of lines) total → AreAlike (read ++ rules_of more) total
   after_nothing e f h = after_line nothing e f h

@@ -8,9 +8,9 @@ ghost use Rattle.host_names.specs.Hosts.{labels_of};
 ghost use Rattle.host_names.specs.Suffixes.{before, has_no_name, longest, rest, suffix_count};
 ghost use Rattle.host_names.specs.SuffixLines.{bad_lines, rules_of};
 
+use crate::Host;
 use crate::ends::{Ends, label_count, split_last};
 use crate::line::{RuleSort, SpelledLine, read_line};
-use crate::Host;
 use cos_source::{Lines, is_digits, split_once};
 use indexmap::IndexMap;
 use listed::Numbers;
@@ -89,7 +89,7 @@ impl Suffixes {
     pub fn read(alloc: Global, bytes: &[u8]) -> Result<SuffixesRead, AllocError>
         requires { length bytes.now < 2 ^ 32 }
         // Each host has the rest that the file's rules give it.
-        ensures rules { IfOk result (λ read. (host : List ℕ) → 
+        ensures rules { IfOk result (λ read. (host : List ℕ) →
             rest read.rules host ≡ rest (rules_of (numbered 1 (lines_of bytes.now))) host) }
         ensures bad { IfOk result (λ read. read.bad ≡ bad_lines (numbered 1 (lines_of bytes.now))) }
     {

@@ -13,7 +13,8 @@ fn hosts_are_read(rt: HostRuntime) -> Result<(), Fail> {
 }
 
 // A file with rules of every form.
-const RULES: &str = "// rules of every form\ncom\nuk\nco.uk\n*.ck\n!www.ck\njp\n*.kawasaki.jp\n!city.kawasaki.jp\n  tokyo.jp\t\ncn\n\u{516c}\u{53f8}.cn\n*.compute.amazonaws.com\nio\ngithub.io // pages\nB\u{fc}cher.example\n*\n*.sch.uk\n!deep.a.sch.uk\n\n//\n*.\na.*.b\n!com\n!*.ck\n~x\na..b\n*.a..b\n!\n**.uk\n!www.ck";
+const RULES: &str =
+    "// rules of every form\ncom\nuk\nco.uk\n*.ck\n!www.ck\njp\n*.kawasaki.jp\n!city.kawasaki.jp\n  tokyo.jp\t\ncn\n\u{516c}\u{53f8}.cn\n*.compute.amazonaws.com\nio\ngithub.io // pages\nB\u{fc}cher.example\n*\n*.sch.uk\n!deep.a.sch.uk\n\n//\n*.\na.*.b\n!com\n!*.ck\n~x\na..b\n*.a..b\n!\n**.uk\n!www.ck";
 
 // Hosts with their public suffix and their rest.
 const HOSTS: [(&str, &str, Option<&str>); 82] = [
@@ -60,8 +61,16 @@ const HOSTS: [(&str, &str, Option<&str>); 82] = [
     ("amazonaws.com", "com", Some("amazonaws")),
     ("compute.amazonaws.com", "com", Some("compute.amazonaws")),
     ("x.compute.amazonaws.com", "x.compute.amazonaws.com", None),
-    ("y.x.compute.amazonaws.com", "x.compute.amazonaws.com", Some("y")),
-    ("z.y.x.compute.amazonaws.com", "x.compute.amazonaws.com", Some("z.y")),
+    (
+        "y.x.compute.amazonaws.com",
+        "x.compute.amazonaws.com",
+        Some("y"),
+    ),
+    (
+        "z.y.x.compute.amazonaws.com",
+        "x.compute.amazonaws.com",
+        Some("z.y"),
+    ),
     ("a.amazonaws.com", "com", Some("a.amazonaws")),
     ("io", "io", None),
     ("github.io", "github.io", None),
@@ -69,7 +78,11 @@ const HOSTS: [(&str, &str, Option<&str>); 82] = [
     ("b.a.github.io", "github.io", Some("b.a")),
     ("notgithub.io", "io", Some("notgithub")),
     ("xn--bcher-kva.example", "xn--bcher-kva.example", None),
-    ("a.xn--bcher-kva.example", "xn--bcher-kva.example", Some("a")),
+    (
+        "a.xn--bcher-kva.example",
+        "xn--bcher-kva.example",
+        Some("a"),
+    ),
     ("example", "example", None),
     ("a.example", "example", Some("a")),
     ("b.a.example", "example", Some("b.a")),
@@ -105,13 +118,20 @@ const HOSTS: [(&str, &str, Option<&str>); 82] = [
 fn hosts_have_their_rests(rt: HostRuntime) -> Result<(), Fail> {
     let alloc = rt.alloc();
     let read = Suffixes::read(alloc, RULES.as_bytes())?;
-    assert_eq!(rt; read.bad.as_slice(), [22, 23, 24, 25, 26, 27, 28, 29, 30].as_slice());
+    assert_eq!(rt;
+        read.bad.as_slice(),
+        [22, 23, 24, 25, 26, 27, 28, 29, 30].as_slice()
+    );
     for (name, suffix, expected) in HOSTS {
         let host = Host::of_page(alloc, name)?;
         let rest = read.rules.rest(&host);
         assert_eq!(rt; rest, expected, "the rest of {name}");
         if let Some(rest) = rest {
-            assert_eq!(rt; rest.len() + 1 + suffix.len(), name.len(), "the suffix of {name}");
+            assert_eq!(rt;
+                rest.len() + 1 + suffix.len(),
+                name.len(),
+                "the suffix of {name}"
+            );
         }
     }
     let host = Host::of_page(alloc, "a.co.uk")?;

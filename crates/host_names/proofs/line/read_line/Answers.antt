@@ -8,8 +8,8 @@ use Rattle.host_names.proofs.line.read_line.Goals as goal
 pub returns-in-Ok : goal.returns-in-Ok
 returns-in-Ok c =
     IfOk-weaker c.read_text.result _ _
-      (λ read e. e ∙ ap text_line (c.trim_text.ensures.text ∙ ap trimmed c.in-Ok.ensures.cases.0) ∙ is_text c.args.line.now c.in-Ok.ensures.cases.1)
-      c.read_text.ensures
+    (λ read e. e ∙ ap text_line (c.trim_text.ensures.text ∙ ap trimmed c.in-Ok.ensures.cases.0) ∙ is_text c.args.line.now c.in-Ok.ensures.cases.1)
+    c.read_text.ensures
 
 pub returns-in-Err : goal.returns-in-Err
 returns-in-Err c = no_text c.args.line.now c.in-Err.ensures.cases.0

@@ -6,7 +6,7 @@ use Rattle.address_patterns.proofs.pattern.AddressPattern.first_piece.Given as g
 abbrev pub invariant-places : goal.invariant-places
 invariant-places l = record {
   places : first_of l.self.at_end l.self.body (starts_by (may_begin l.self.begin l.page) 0 l.page.address)
-    ≡ first_of l.self.at_end l.self.body (starts_by (may_begin l.self.begin l.page) l.place (drop l.place l.page.address));
+      ≡ first_of l.self.at_end l.self.body (starts_by (may_begin l.self.begin l.page) l.place (drop l.place l.page.address));
   within : l.place ≤ length l.page.address;
 }
 

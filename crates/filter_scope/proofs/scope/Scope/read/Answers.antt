@@ -7,6 +7,6 @@ use Rattle.filter_scope.proofs.scope.Scope.read.Goals as goal
 pub parts-init : goal.parts-init
 parts-init c = record {
   read = ap (λ (items : List Item). with_items items (read_parts c.new-parts.result)) c.new-items.ensures
-    ∙ none_before (read_parts c.new-parts.result) ∙ ap read_parts c.new-parts.ensures;
+      ∙ none_before (read_parts c.new-parts.result) ∙ ap read_parts c.new-parts.ensures;
   within = subst (EndBy (length c.args.text.now)) (sym c.new-parts.ensures) (parts_end c.args.separator c.args.text.now);
 }

@@ -24,13 +24,13 @@ pub returns-in-Some : goal.returns-in-Some
 returns-in-Some c =
     ap (λ (k : RuleKinds). k.star) c.kinds_at.ensures
     ∙ sym (holds_star c.args.end.now c.self.inside.by_name.entries c.self.invariant (Some c.in-Some.behind.now)
-      (sym c.split_once.ensures.behind ∙ ap (λ (o : Option (Bor (List ℕ))). option_copied o) c.in-Some.is)
-      (sym (ap (λ (k : RuleKinds). k.plain) c.kinds_at-kinds.ensures) ∙ c.if-kinds.false))
+    (sym c.split_once.ensures.behind ∙ ap (λ (o : Option (Bor (List ℕ))). option_copied o) c.in-Some.is)
+    (sym (ap (λ (k : RuleKinds). k.plain) c.kinds_at-kinds.ensures) ∙ c.if-kinds.false))
     ∙ ap₂ (λ (e : Bool) (rules : List Rule). list_any (is_whole e (labels_of c.args.end.now)) rules) (sym c.if-exceptions.false) c.self.view_is
 
 pub returns-in-None : goal.returns-in-None
 returns-in-None c =
     sym (holds_star c.args.end.now c.self.inside.by_name.entries c.self.invariant None
-      (sym c.split_once.ensures.behind ∙ ap (λ (o : Option (Bor (List ℕ))). option_copied o) c.in-None.is)
-      (sym (ap (λ (k : RuleKinds). k.plain) c.kinds_at-kinds.ensures) ∙ c.if-kinds.false))
+    (sym c.split_once.ensures.behind ∙ ap (λ (o : Option (Bor (List ℕ))). option_copied o) c.in-None.is)
+    (sym (ap (λ (k : RuleKinds). k.plain) c.kinds_at-kinds.ensures) ∙ c.if-kinds.false))
     ∙ ap₂ (λ (e : Bool) (rules : List Rule). list_any (is_whole e (labels_of c.args.end.now)) rules) (sym c.if-exceptions.false) c.self.view_is

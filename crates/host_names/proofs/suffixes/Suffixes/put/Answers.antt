@@ -14,7 +14,7 @@ returns c = λ exceptions labels.
     let es = c.self.inside.by_name.entries in
     let key = c.into_string.result in
     let kinds = c.with-kinds.ensures ∙ ap (with_kind c.args.sort) (c.kinds_at.ensures
-      ∙ ap (λ (n : List ℕ). kinds_or_none (lookup (λ k. bytes_eq n (string_bytes k)) es)) (c.as_str.ensures ∙ sym c.into_string.ensures)) in
+    ∙ ap (λ (n : List ℕ). kinds_or_none (lookup (λ k. bytes_eq n (string_bytes k)) es)) (c.as_str.ensures ∙ sym c.into_string.ensures)) in
     ap (λ entries. longest exceptions (rules_in entries) labels) (c.in_ok-insert.ensures.entries ∙ ap (λ (v : RuleKinds). insert_entry string_eq es key v) kinds)
     ∙ longest_put c.args.sort key es exceptions labels
     ∙ ap₂ (λ (n : List ℕ) (rules : List Rule). longest exceptions (rule_by c.args.sort n ∷ rules) labels) c.into_string.ensures c.self.view_is

@@ -26,6 +26,6 @@ lines-preserved-in-Continue-branch-3 c =
     let r = rule_by c.in-Named.sort c.in-Named.name in
     record {
       rules = after_rule c.lines.rules _ (c.in-Some.line.number, c.in-Some.line.bytes.now) c.lines.lines c.next.new.self r c.put.new.self c.in-Some.ensures meaning
-        c.in_ok-put-in-Named.ensures c.lines.invariant.rules;
+          c.in_ok-put-in-Named.ensures c.lines.invariant.rules;
       bad = after_bad_line c.lines.bad _ (c.in-Some.line.number, c.in-Some.line.bytes.now) c.lines.lines c.next.new.self (rule r) c.in-Some.ensures meaning c.lines.invariant.bad;
     }
