@@ -1,0 +1,5 @@
+pub mod Cuts
+mod Examples
+pub mod Greedy
+pub mod LastByte
+pub mod Shorter
