@@ -1,5 +1,5 @@
 -- The trees of small pages, computed, and each row of the tables of elements.
-use Rattle.std.specs.Prelude.{◌≡◌, ℕ, List, [], ◌∷◌, codes, refl, true, false, map}
+use Rattle.std.specs.Prelude.{◌≡◌, ℕ, List, [], ◌∷◌, codes, refl, true, false, map, length}
 use lib.Utf8.{encode}
 use Rattle.page_tree.specs.Forest.{element, text, comment, empty, node}
 use Rattle.html_meaning.specs.Elements.{has_content, holds_raw_text, implied_ends, void_elements, self_closing_elements, paragraph_enders}
@@ -90,18 +90,52 @@ self_closing_elements_have_none = refl
 others_have_content : parents (codes "<div/>a<g>b") ≡ 0 ∷ 1 ∷ 1 ∷ 3 ∷ []
 others_have_content = refl
 
-no_void_element_has_content : map (λ name. has_content name false) void_elements ≡ map (λ name. false) void_elements
+-- the tables, spelled out once more: the void elements as HTML lists them, from the last one on
+abbrev void_names : List (List ℕ)
+void_names =
+    codes "wbr" ∷ codes "track" ∷ codes "source" ∷ codes "param" ∷ codes "meta" ∷ codes "link" ∷ codes "input"
+    ∷ codes "img" ∷ codes "hr" ∷ codes "embed" ∷ codes "col" ∷ codes "br" ∷ codes "base" ∷ codes "area" ∷ []
+
+void_names_are_all : length void_elements ≡ length void_names
+void_names_are_all = refl
+
+no_void_element_has_content : map (λ name. has_content name false) void_names ≡ map (λ name. false) void_names
 no_void_element_has_content = refl
 
-self_closing_alone : map (λ name. has_content name true) self_closing_elements ≡ map (λ name. false) self_closing_elements
+-- shapes and text, parts of a drawing, animations, filters and gradients
+abbrev svg_names : List (List ℕ)
+svg_names =
+    codes "circle" ∷ codes "ellipse" ∷ codes "line" ∷ codes "path" ∷ codes "polygon" ∷ codes "polyline"
+    ∷ codes "rect" ∷ codes "text" ∷ codes "tspan" ∷ codes "use" ∷ codes "image" ∷ codes "view" ∷ codes "symbol"
+    ∷ codes "g" ∷ codes "defs" ∷ codes "clippath" ∷ codes "mask" ∷ codes "pattern" ∷ codes "set"
+    ∷ codes "animate" ∷ codes "animatemotion" ∷ codes "animatetransform" ∷ codes "mpath" ∷ codes "filter"
+    ∷ codes "feblend" ∷ codes "fecolormatrix" ∷ codes "fecomposite" ∷ codes "feflood" ∷ codes "fegaussianblur"
+    ∷ codes "femerge" ∷ codes "femergenode" ∷ codes "feoffset" ∷ codes "lineargradient" ∷ codes "radialgradient"
+    ∷ codes "stop" ∷ []
+
+svg_names_are_all : length self_closing_elements ≡ length svg_names
+svg_names_are_all = refl
+
+self_closing_alone : map (λ name. has_content name true) svg_names ≡ map (λ name. false) svg_names
 self_closing_alone = refl
 
-not_self_closing_elements : map (λ name. has_content name false) self_closing_elements ≡ map (λ name. true) self_closing_elements
+not_self_closing_elements : map (λ name. has_content name false) svg_names ≡ map (λ name. true) svg_names
 not_self_closing_elements = refl
 
 -- implied ends, each row
 
-paragraphs : map implied_ends paragraph_enders ≡ map (λ name. codes "p" ∷ []) paragraph_enders
+-- paragraphs and headings, lists, other blocks, and sections
+abbrev block_names : List (List ℕ)
+block_names =
+    codes "p" ∷ codes "h1" ∷ codes "h2" ∷ codes "h3" ∷ codes "h4" ∷ codes "h5" ∷ codes "h6" ∷ codes "ul"
+    ∷ codes "ol" ∷ codes "dl" ∷ codes "pre" ∷ codes "table" ∷ codes "form" ∷ codes "fieldset" ∷ codes "address"
+    ∷ codes "blockquote" ∷ codes "figure" ∷ codes "hr" ∷ codes "header" ∷ codes "footer" ∷ codes "main"
+    ∷ codes "nav" ∷ codes "section" ∷ codes "article" ∷ codes "aside" ∷ codes "div" ∷ []
+
+block_names_are_all : length paragraph_enders ≡ length block_names
+block_names_are_all = refl
+
+paragraphs : map implied_ends block_names ≡ map (λ name. codes "p" ∷ []) block_names
 paragraphs = refl
 
 paragraph_ends : parents (codes "<p>a<p>b<DIV>c<p>d") ≡ 0 ∷ 1 ∷ 0 ∷ 3 ∷ 0 ∷ 5 ∷ 5 ∷ 7 ∷ []

@@ -1,8 +1,8 @@
 -- A walk through a tag, piece by piece.
-use Rattle.std.proofs.Common.{◌≡◌, ℕ, zero, suc, ◌+◌, ◌-◌, ◌<◌, ◌≤◌, ◌≢◌, List, [], ◌∷◌, length, drop, refl, arith, ap, drop-drop}
+use Rattle.std.proofs.Common.{◌≡◌, ℕ, zero, suc, ◌+◌, ◌-◌, ◌<◌, ◌≤◌, ◌≢◌, false, List, [], ◌∷◌, length, drop, refl, arith, ap, drop-drop}
 use Rattle.std.proofs.lemmas.Bool.{ne_eqb}
 use Rattle.std.proofs.lemmas.List.{length-drop}
-use Rattle.std.specs.Prelude.{slice_index}
+use Rattle.std.specs.Prelude.{slice_index, ◌==◌}
 use Rattle.html_meaning.specs.Tokens.{to_tag_end, is_self_closing, more_in_tag}
 
 pub to_tag_end_skips : (k : ℕ) (bs : List ℕ) → k ≤ length bs → to_tag_end k bs ≡ k + to_tag_end 0 (drop k bs)
@@ -39,6 +39,29 @@ pub closes_steps : (rest : List ℕ) (size : ℕ) → 1 < length rest → size �
 closes_steps [] size z e = absurd (omega arith)
 closes_steps (b ∷ []) size z e = absurd (omega arith)
 closes_steps (b ∷ c ∷ bs) size z e = rw e (closes_skips (more_in_tag (b ∷ c ∷ bs)) (c ∷ bs))
+
+-- only a tag that ends in `/` is self-closing
+closes_none : (k : ℕ) → is_self_closing k [] ≡ false
+closes_none zero = refl
+closes_none (suc k) = refl
+
+pub some : (n : ℕ) → (n == 0) ≡ false → n ≡ suc (n - 1)
+some zero e = cc
+some (suc n) e = omega arith
+
+pub closes_empty : (bs : List ℕ) → length bs ≡ 0 → is_self_closing 0 bs ≡ false
+closes_empty [] h = refl
+closes_empty (b ∷ bs) h = absurd (omega (arith, h))
+
+pub closes_last : (k n : ℕ) (bs : List ℕ) → length bs ≡ suc n → (slice_index bs n == 47) ≡ false → is_self_closing k bs ≡ false
+closes_last k n [] h e = closes_none k
+closes_last zero zero (b ∷ []) h e = e
+closes_last zero (suc n) (b ∷ []) h e = absurd (omega (arith, h))
+closes_last zero zero (b ∷ c ∷ bs) h e = absurd (omega (arith, h))
+closes_last zero (suc n) (b ∷ c ∷ bs) h e = closes_last (more_in_tag (b ∷ c ∷ bs)) n (c ∷ bs) (omega (arith, h)) e
+closes_last (suc k) n (b ∷ []) h e = closes_none k
+closes_last (suc k) zero (b ∷ c ∷ bs) h e = absurd (omega (arith, h))
+closes_last (suc k) (suc n) (b ∷ c ∷ bs) h e = closes_last k n (c ∷ bs) (omega (arith, h)) e
 
 -- the same from a place of the bytes on
 pub tag_end_on : (bytes : List ℕ) (passed size : ℕ) → passed < length bytes → slice_index (drop passed bytes) 0 ≢ 62 → size ≡ suc (more_in_tag (drop passed bytes)) → size < length bytes - passed

@@ -82,27 +82,27 @@ pub fn behind(text: &str, count: usize) -> &str
     text.split_at(count).1
 }
 
-// What stands behind the first `>`, or nothing.
+// What stands behind the `>` that a text begins with, if any is left.
 fn behind_angle(text: &str) -> &str
-    ensures { result.now ≡ drop (up_to is_angle text.now + 1) text.now }
+    requires { 0 < length text.now → is_angle text.now ≡ true }
+    ensures { result.now ≡ drop 1 text.now }
 {
-    let rest = cut_lead(&Angle, b'>', text).1;
-    if rest.is_empty() {
-        rest
+    if text.is_empty() {
+        text
     } else {
-        behind(rest, 1)
+        behind(text, 1)
     }
 }
 
-// What stands behind the first `-->`, or nothing.
+// What stands behind the `-->` that a text begins with, if any is left.
 fn behind_comment_end(text: &str) -> &str
-    ensures { result.now ≡ drop (up_to ends_comment text.now + 3) text.now }
+    requires { 0 < length text.now → ends_comment text.now ≡ true }
+    ensures { result.now ≡ drop 3 text.now }
 {
-    let rest = cut_lead(&CommentEnd, b'-', text).1;
-    if rest.is_empty() {
-        rest
+    if text.is_empty() {
+        text
     } else {
-        behind(rest, 3)
+        behind(text, 3)
     }
 }
 
@@ -120,25 +120,25 @@ fn comment(source: &str) -> Found<'_>
     ensures { Reads result (comment source.now) source.now }
 {
     let inner = behind(source, 2);
-    let front = cut_lead(&CommentEnd, b'-', inner).0;
+    let (front, end) = cut_lead(&CommentEnd, b'-', inner);
     Found {
         piece: Piece::Comment {
             text: behind_two(front),
         },
-        rest: behind_comment_end(inner),
+        rest: behind_comment_end(end),
     }
 }
 
-// A comment of any other form, up to and with the first `>`.
+// A comment of any other form, up to and with the first `>`, which isn't among its first two bytes.
 fn bogus_comment(source: &str) -> Found<'_>
     requires { IsTrue (is_bogus_comment source.now) }
     ensures { Reads result (bogus_comment source.now) source.now }
 {
     let inner = behind(source, 2);
-    let text = cut_lead(&Angle, b'>', inner).0;
+    let (text, end) = cut_lead(&Angle, b'>', inner);
     Found {
         piece: Piece::Comment { text },
-        rest: behind_angle(source),
+        rest: behind_angle(end),
     }
 }
 
@@ -146,9 +146,10 @@ fn bogus_comment(source: &str) -> Found<'_>
 fn doctype(source: &str) -> Found<'_>
     ensures { Reads result (doctype source.now) source.now }
 {
+    let end = cut_lead(&Angle, b'>', source).1;
     Found {
         piece: Piece::Doctype,
-        rest: behind_angle(source),
+        rest: behind_angle(end),
     }
 }
 

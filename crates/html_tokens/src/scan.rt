@@ -1,6 +1,6 @@
 // How far it is to a place.
 
-ghost use Rattle.std.specs.Prelude.{◌≡◌, ◌<◌, ◌≤◌, ◌-◌, ℕ, List, length, slice_index, take, drop, suc, true};
+ghost use Rattle.std.specs.Prelude.{◌≡◌, ◌<◌, ◌≤◌, ◌-◌, ℕ, List, length, slice_index, take, drop, suc, true, false};
 ghost use Rattle.html_meaning.specs.Bytes.{up_to};
 ghost use Rattle.html_meaning.specs.Tokens.{no_space, attribute, to_tag_end, is_self_closing, more_in_tag, with_value};
 ghost use Rattle.html_tokens.specs.Extents.{AreCuts, IsExtent};
@@ -99,7 +99,7 @@ fn value_at(name: usize, bytes: &[u8], from: usize) -> Extent
     let text = after(bytes, from);
     let quote = byte(text, 0);
     if is_quote(quote) {
-        let value = up_to(&Quote { quote }, after(text, 1));
+        let value = up_to_lead(&Quote { quote }, quote, after(text, 1));
         Extent {
             name,
             from: from + 1,
@@ -168,10 +168,24 @@ pub fn to_tag_end(bytes: &[u8]) -> usize
     passed
 }
 
+// A `/` stands last, where the tag may be self-closing.
+fn ends_in_slash(bytes: &[u8]) -> bool
+    ensures { result ≡ false → is_self_closing 0 bytes.now ≡ false }
+{
+    if bytes.is_empty() {
+        return false;
+    }
+    bytes[bytes.len() - 1] == b'/'
+}
+
 /// A `/` stands last, and is part of no attribute.
 pub fn is_self_closing(bytes: &[u8]) -> bool
     ensures { result ≡ is_self_closing 0 bytes.now }
 {
+    // the attributes are gone through again only where that `/` may be part of one
+    if !ends_in_slash(bytes) {
+        return false;
+    }
     let mut passed = 0;
     while bytes.len() - passed > 1 {
         let size = piece_size(after(bytes, passed));

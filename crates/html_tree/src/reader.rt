@@ -167,7 +167,8 @@ fn push_node(
 }
 
 /// The nodes of a source, for a place whose parent has this depth in a tree of `live` nodes. The source is gone through once,
-/// and no further than the first node that passes a limit of trees, which is the answer then.
+/// and no further than the first node that passes a limit of trees, which is the answer then. There are no more nodes than
+/// the source has bytes.
 pub fn read_fragment(
     alloc: Global,
     source: &str,
@@ -178,6 +179,7 @@ pub fn read_fragment(
         (IsOkUnless result PageError.NoMemory) (λ limit. FailsWith result (page_error limit)) }
     ensures nodes { IfOk result (λ part. new_nodes part ≡ fragment source.now) }
     ensures fragment { IfOk result (λ part. IsFragment (new_nodes part)) }
+    ensures few { IfOk result (λ part. length part ≤ length source.now) }
 {
     let mut tokens = Tokens::new(source);
     let mut chain: Vec<&str> = Vec::new(alloc);

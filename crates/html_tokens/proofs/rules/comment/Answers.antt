@@ -13,5 +13,7 @@ returns c =
       piece = ap Comment
           (c.behind_two.ensures ∙ ap (drop 2) (c.cut_lead.ensures.front ∙ ap (λ bs. take (up_to ends_comment bs) bs) c.behind-inner.ensures)
           ∙ comment_text (drop 2 source) u ∙ ap (take _) (drop-drop 2 2 source));
-      rest = c.behind_comment_end.ensures ∙ ap (λ bs. drop (up_to ends_comment bs + 3) bs) c.behind-inner.ensures ∙ comment_rest source u;
+      rest =
+          c.behind_comment_end.ensures ∙ ap (drop 3) (c.cut_lead.ensures.back ∙ ap (λ bs. drop (up_to ends_comment bs) bs) c.behind-inner.ensures)
+          ∙ drop-drop 3 u (drop 2 source) ∙ comment_rest source u;
     }

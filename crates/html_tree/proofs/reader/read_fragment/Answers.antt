@@ -14,6 +14,7 @@ use Rattle.html_tree.specs.declared.reader.PageError.TheVariants.{NoMemory}
 use Rattle.dom_arena.specs.declared.kinds.NewNode.{NewNode}
 use Rattle.html_tree.proofs.Kept.{Kept, kept_start, kept_node, kept_next, kept_none, kept_all}
 use Rattle.html_tree.proofs.PassedLimits.{push_done, push_failed, pushed_within, pushed_passes, fails, failed_so, error_given}
+use Rattle.html_meaning.proofs.Counts.{fragment_few}
 use Rattle.html_tree.proofs.Depths.{fragment_is}
 use Rattle.html_tree.proofs.reader.read_fragment.Goals as goal
 
@@ -90,3 +91,13 @@ returns-clause-fragment c =
     let all = fragment c.args.source.now in
     let none : c.loop-token.tokens ≡ [] = c.in_default.ensures.0 in
     subst IsFragment (sym (kept_all names out all (subst (λ ts. Kept names ts out all) none c.loop-token.invariant.kept))) (fragment_is c.args.source.now)
+
+pub returns-clause-few : goal.returns-clause-few
+returns-clause-few c =
+    let names = names_of c.loop-token.chain.items in
+    let out = new_nodes c.loop-token.part in
+    let all = fragment c.args.source.now in
+    let none : c.loop-token.tokens ≡ [] = c.in_default.ensures.0 in
+    let whole : out ≡ all = kept_all names out all (subst (λ ts. Kept names ts out all) none c.loop-token.invariant.kept) in
+    let long : length out ≡ length c.loop-token.part = length-map c.loop-token.part _ in
+    omega (arith, long, ap length whole, fragment_few c.args.source.now)
