@@ -1,11 +1,9 @@
--- Each definition of a tree, computed on small pages.
+-- The walks of a tree, its elements and what stands around them, computed on a small page.
 use Rattle.std.specs.Prelude.{◌≡◌, [], ◌∷◌, codes, Some, None, refl, true}
-use Rattle.page_tree.specs.Forest.{element, text, comment, Forest, empty, node, Tree, rooted, numbers, find, children, later_of, first, parent_in, previous_in, depth_in, behind, tops, size, height}
-use Rattle.page_tree.specs.Edits.{grafted, added, appended, without, with_content, with_attr, without_attr}
+use Rattle.page_tree.specs.Forest.{element, text, comment, Forest, empty, node, Tree, rooted, numbers, find, children, later_of, first, parent_in, previous_in, depth_in, behind, size, height}
 use Rattle.page_tree.specs.Standings.{all, elements, standing, above, before, after, inner}
 use Rattle.page_tree.specs.Facts.{id, class_list, text_content, is_blank}
 use Rattle.page_tree.specs.Directions.{reached, numbers_of, to_child, to_below, to_parent, to_above, to_next, to_previous, to_after, to_before}
-use Rattle.page_tree.specs.Trees.{AreAttributes}
 
 -- <p id="top" class=" ad  big">ab<b>c</b><!--d--></p><i></i>
 abbrev pub page : Forest
@@ -127,33 +125,3 @@ text_of_p = refl
 blank_i : is_blank (inner tree 6) ≡ true
 unfolding elements standing
 blank_i = refl
-
--- changes
-
-moved : numbers (grafted 6 0 (node 3 (element (codes "b") []) (node 4 (text (codes "c")) empty empty) empty) (without 3 page)) ≡ 1 ∷ 2 ∷ 5 ∷ 6 ∷ 3 ∷ 4 ∷ []
-moved = refl
-
-put_between : tops (children (find 1 (added 1 1 (node 7 (comment []) empty empty) tree).nodes)) ≡ 2 ∷ 7 ∷ 3 ∷ 5 ∷ []
-put_between = refl
-
-put_last : tops (children (find 1 (appended 1 (node 7 (comment []) empty empty) tree).nodes)) ≡ 2 ∷ 3 ∷ 5 ∷ 7 ∷ []
-put_last = refl
-
-next_number : (appended 1 (node 7 (comment []) empty empty) tree).next ≡ 8
-next_number = refl
-
-rewritten_text : text_content (record { nodes = with_content 2 (text (codes "x")) page; next = 7 }) 1 ≡ codes "xc"
-unfolding elements standing
-rewritten_text = refl
-
-attr_keeps_its_place : with_attr (codes "id") (codes "x") ((codes "id", codes "top") ∷ (codes "class", []) ∷ []) ≡ (codes "id", codes "x") ∷ (codes "class", []) ∷ []
-attr_keeps_its_place = refl
-
-new_attr_goes_last : with_attr (codes "id") (codes "x") ((codes "class", []) ∷ []) ≡ (codes "class", []) ∷ (codes "id", codes "x") ∷ []
-new_attr_goes_last = refl
-
-attr_goes : without_attr (codes "id") ((codes "id", codes "top") ∷ (codes "class", []) ∷ []) ≡ (codes "class", []) ∷ []
-attr_goes = refl
-
-attrs_are_distinct : AreAttributes ((codes "id", codes "top") ∷ (codes "class", []) ∷ [])
-attrs_are_distinct = (refl, refl, (refl, refl, tt))

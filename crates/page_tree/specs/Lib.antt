@@ -7,5 +7,8 @@ pub mod Directions
 pub mod Trees
 pub mod ForestCode
 pub mod Example
+pub mod EditExample
 pub mod Fragments
 pub mod FragmentExample
+pub mod Refusals
+pub mod RefusalExample
