@@ -1,4 +1,1 @@
-mod Cuts
-mod Numerals
 mod Texts
-pub mod Built

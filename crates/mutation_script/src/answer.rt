@@ -1,0 +1,27 @@
+// How the page and each line of a script are answered.
+use crate::BadLine;
+use dom_arena::DomError;
+
+/// What came of a mutation.
+#[derive(Clone, Copy, Debug, PartialEq, Eq)]
+pub enum Outcome {
+    /// The change is made.
+    Done,
+    /// The change is refused, and nothing changed. It is never `NoMemory`.
+    Refused(DomError),
+}
+
+/// The answer of a step: to the page, or to a line of a script.
+#[derive(Clone, Copy, Debug, PartialEq, Eq)]
+pub enum Answer {
+    /// The page was read.
+    Opened,
+    /// The change is made.
+    Done,
+    /// The change is refused, and nothing changed. It is never `NoMemory`.
+    Refused(DomError),
+    /// The line is blank.
+    Blank,
+    /// The line says no change, for this cause.
+    Bad(BadLine),
+}
