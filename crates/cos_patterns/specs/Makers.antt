@@ -5,6 +5,9 @@ use Rattle.url.specs.Parser.{parse_url}
 use Rattle.url.specs.Parts.{Parts}
 use Rattle.cos_patterns.specs.declared.errors.MakeError.{MakeError}
 use Rattle.cos_patterns.specs.declared.errors.MakeError.TheVariants.{Unreadable, TooLarge, NoMemory}
+use Rattle.cos_patterns.specs.declared.errors.PatternError.{PatternError}
+use Rattle.cos_patterns.specs.declared.errors.PatternError.TheVariants.{BadPattern, PatternTooLarge}
+use Rattle.cos_patterns.specs.declared.errors.PatternError.TheVariants as pattern
 use Rattle.cos_patterns.specs.declared.written.Asked.{Asked}
 use Rattle.cos_patterns.specs.declared.written.Written.{Written}
 
@@ -29,6 +32,13 @@ unread_after (Ok made) pattern before = before
 unread_after (Err Unreadable) pattern before = before ++ pattern ∷ []
 unread_after (Err TooLarge) pattern before = before
 unread_after (Err NoMemory) pattern before = before
+
+-- it is so, or there was no memory
+abbrev pub UnlessNoMemory : {T : Type 0} → Result T PatternError → Type 0 → Type 0
+UnlessNoMemory (Ok value) P = P
+UnlessNoMemory (Err BadPattern) P = P
+UnlessNoMemory (Err PatternTooLarge) P = P
+UnlessNoMemory (Err pattern.NoMemory) P = Unit {0}
 
 -- the text was refused for size, or there was no memory to note so
 abbrev pub IsRefusedForSize : {T : Type 0} → Result T MakeError → Type 0

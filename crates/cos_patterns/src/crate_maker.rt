@@ -73,6 +73,9 @@ impl Maker for CrateMaker {
 
     ghost unread = { unread_of };
 
+    // It counts no calls.
+    ghost asks = { λ old asked new. Unit {0} };
+
     fn pattern(&mut self, text: &str, flags: u8) -> Result<Regex, MakeError> {
         match read_pattern(self.alloc, text, flags) {
             Ok(regex) => Ok(regex),

@@ -69,6 +69,8 @@ impl Maker for ListedMaker {
 
     ghost unread = { unread_of };
 
+    ghost asks = { λ old asked new. CountsCall (plan_of old) (plan_of new) };
+
     fn pattern(&mut self, text: &str, flags: u8) -> Result<Regex, MakeError>
         requires { flags < 8 }
         ensures ok { IfOk result (IsPatternOf text.now flags) }

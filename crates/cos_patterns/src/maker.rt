@@ -20,6 +20,9 @@ pub trait Maker {
     /// The patterns that it refused as unreadable, in order.
     ghost unread: { Self → List Written };
 
+    /// What one call that asks for this text does to it beside its lists.
+    ghost asks: { Self → Asked → Self → Type 0 };
+
     /// The pattern that the grammar of `regex` reads in the text under the flags.
     ///
     /// `flags` is a sum of 1 for `i`, 2 for `m` and 4 for `s`.
@@ -29,7 +32,8 @@ pub trait Maker {
         ensures unreadable { IsErrOf result MakeError.Unreadable → IsUnreadable text.now flags }
         // The pattern is added to a list exactly where it is refused so, and nothing else is.
         ensures large { large self.new ≡ large_after result (Asked.Pattern (written text.now flags)) (large self.old) }
-        ensures unread { unread self.new ≡ unread_after result (written text.now flags) (unread self.old) };
+        ensures unread { unread self.new ≡ unread_after result (written text.now flags) (unread self.old) }
+        ensures asked { asks self.old (Asked.Pattern (written text.now flags)) self.new };
 
     /// The address that the URL Standard's parser reads in the text.
     fn address(&mut self, text: &str) -> Result<Url, MakeError>
@@ -37,5 +41,6 @@ pub trait Maker {
         ensures unreadable { IsErrOf result MakeError.Unreadable → IsNoAddress text.now }
         // The text is added to `large` exactly where it is refused so, and nothing else is.
         ensures large { large self.new ≡ large_after result (Asked.Address text.now) (large self.old) }
-        ensures unread { unread self.new ≡ unread self.old };
+        ensures unread { unread self.new ≡ unread self.old }
+        ensures asked { asks self.old (Asked.Address text.now) self.new };
 }

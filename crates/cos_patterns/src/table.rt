@@ -1,7 +1,8 @@
-ghost use Rattle.std.specs.Prelude.{◌≡◌, ◌+◌, ◌<◌, ◌↔◌, [], ◌∷◌, ◌++◌, List, length, false, IsTrue, IfOk, OnOk, OnErr, IsErrOf, vec_len, vec_capacity};
+ghost use Rattle.std.specs.Prelude.{◌≡◌, ◌+◌, ◌<◌, ◌↔◌, [], ◌∷◌, ◌++◌, List, length, false, IsTrue, IfOk, OnOk, OnErr, IsErrOf, is_ok, vec_len, vec_capacity};
 ghost use Rattle.cos_patterns.specs.declared.written.Asked.{Asked};
 ghost use Rattle.cos_patterns.specs.declared.written.Written.{Written};
 ghost use Rattle.cos_patterns.specs.Found.{is_read};
+ghost use Rattle.cos_patterns.specs.Makers.{UnlessNoMemory};
 ghost use Rattle.cos_patterns.specs.Notes.{Says};
 ghost use Rattle.cos_patterns.specs.Tables.{Agrees, Extends, is_noted, with_pattern, patterns_in, found_at, said_of};
 ghost use Rattle.cos_patterns.specs.Written.{written, is_in, is_same, place_of};
@@ -85,6 +86,11 @@ impl PatternTable {
         ensures kept { IsTrue (is_noted (written text.now flags) self.old) → self.new ≡ self.old }
         ensures others { (other : Written) → is_same (written text.now flags) other ≡ false → said_of other self.new ≡ said_of other self.old }
         ensures asked_once { IsTrue (is_noted (written text.now flags) self.old) → maker.new ≡ maker.old }
+        // The maker is asked once for another one, and for nothing else.
+        ensures asked_new { is_noted (written text.now flags) self.old ≡ false → UnlessNoMemory result
+            (M.asks maker.old (Asked.Pattern (written text.now flags)) maker.new) }
+        // The table holds it exactly where it has a number.
+        ensures held { is_in (written text.now flags) self.new.patterns ≡ is_ok result }
         ensures stays { Extends self.old self.new }
     {
         match self.note_of(text, flags) {
@@ -142,6 +148,8 @@ impl PatternTable {
         ensures refused { OnErr result (self.new.patterns ≡ self.old.patterns) }
         ensures no_memory { IsErrOf result PatternError.NoMemory → self.new ≡ self.old }
         ensures others { (other : Written) → is_same (written text.now flags) other ≡ false → said_of other self.new ≡ said_of other self.old }
+        ensures asked { UnlessNoMemory result (M.asks maker.old (Asked.Pattern (written text.now flags)) maker.new) }
+        ensures held { is_in (written text.now flags) self.new.patterns ≡ is_ok result }
     {
         let written = Written::of(self.alloc, text, flags)?;
         // A refusal of the maker always finds room for its note.

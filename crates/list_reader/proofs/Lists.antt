@@ -54,4 +54,4 @@ pub proper_later : (a b : Noted) (selector : List (List Step)) → Extends a b �
 proper_later a b selector e h = subst (λ (p : List Written). is_proper p selector ≡ true) (sym e.numbers) (proper_more a.patterns e.more selector h)
 
 pub proper_all : (a b : Noted) (filters : List Filter) → Extends a b → All (IsProperFilter a.patterns) filters → All (IsProperFilter b.patterns) filters
-proper_all a b filters e h = λ k f within. proper_later a b (get_or filters k f).selector e (h k f within)
+proper_all a b filters e h = λ k f within. (let p = h k f within in (proper_later a b (get_or filters k f).selector e p.0, p.1))

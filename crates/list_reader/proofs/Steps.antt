@@ -10,6 +10,7 @@ use Rattle.selector_tree.specs.declared.selector.Step.{Step}
 use Rattle.selector_tree.specs.Unnumbered.{unnumbered}
 use Rattle.selector_spelling.specs.declared.finding.Finding.{Finding}
 use Rattle.selector_spelling.specs.Bytes.{Bytes}
+use Rattle.proper_filters.specs.Degrees.{have_degrees}
 use Rattle.proper_filters.specs.Proper.{is_proper}
 use Rattle.list_reader.specs.declared.notice.Notice.{Notice}
 use Rattle.list_reader.specs.Lines.{LineMeaning, line_of}
@@ -57,7 +58,7 @@ pub none_proper : (patterns : List Written) (filters : List Filter) → filters 
 none_proper patterns filters e = subst (λ (fs : List Filter). All (IsProperFilter patterns) fs) (sym e) (All-nil (IsProperFilter patterns))
 
 pub pushed_proper : (a b : Noted) (list n : ℕ) (selector : List (List Step)) (f : Filter) (filters after : List Filter) →
-    Extends a b → after ≡ filters ++ f ∷ [] → f ≡ hide_filter list n selector → is_proper b.patterns selector ≡ true →
+    Extends a b → after ≡ filters ++ f ∷ [] → f ≡ hide_filter list n selector → (is_proper b.patterns selector ≡ true) × (have_degrees selector ≡ true) →
     All (IsProperFilter a.patterns) filters → All (IsProperFilter b.patterns) after
 pushed_proper a b list n selector f filters after x e is p h =
     subst (λ (fs : List Filter). All (IsProperFilter b.patterns) fs) (sym (e ∙ ap (λ (y : Filter). filters ++ y ∷ []) is))

@@ -2,6 +2,7 @@
 use Rattle.std.specs.Prelude.{◌≡◌, ℕ, true, List, [], ◌∷◌}
 use Rattle.cos_patterns.specs.declared.written.Asked.{Asked}
 use Rattle.cos_patterns.specs.declared.written.Written.{Written}
+use Rattle.proper_filters.specs.Degrees.{have_degrees}
 use Rattle.proper_filters.specs.Proper.{is_proper}
 use Rattle.selector_tree.specs.declared.filter.Action.TheVariants.{Hide}
 use Rattle.selector_tree.specs.declared.filter.Filter.{Filter}
@@ -62,6 +63,6 @@ module _ (large : List Asked) (unread : List Written) where
   notices_in [] = []
   notices_in (line ∷ lines) = with_notice line.0 (line_of large unread line.1) (notices_in lines)
 
--- the filter may be asked, over a table of these patterns
+-- the filter may be asked, over a table of these patterns, and each `:upward(n)` in it has a number of at least 1
 abbrev pub IsProperFilter : List Written → Filter → Type 0
-IsProperFilter patterns f = is_proper patterns f.selector ≡ true
+IsProperFilter patterns f = (is_proper patterns f.selector ≡ true) × (have_degrees f.selector ≡ true)

@@ -3,9 +3,8 @@ use Rattle.std.specs.Prelude.{◌≡◌, ◌≤◌, ◌+◌, ℕ, true, List, le
 use Rattle.cos_patterns.specs.declared.written.Asked.{Asked}
 use Rattle.cos_patterns.specs.declared.written.Written.{Written}
 use Rattle.proper_filters.specs.Proper.{is_proper}
+use Rattle.proper_filters.specs.Degrees.{have_degrees}
 use Rattle.selector_tree.specs.Unnumbered.{unnumbered}
-use Rattle.selector_parser.specs.declared.read.Read.{Read}
-use Rattle.selector_parser.specs.declared.read.Read.TheVariants as read
 use Rattle.selector_parser.specs.Readings.{read_by}
 use Rattle.list_reader.specs.declared.form.LineForm.{LineForm}
 use Rattle.list_reader.specs.declared.form.LineForm.TheVariants as form
@@ -31,14 +30,8 @@ EndsBy limit form.Nothing = Unit {0}
 EndsBy limit (form.Selector at text) = at + length text.now ≤ limit
 EndsBy limit (form.Noted finding) = Unit {0}
 
--- a place in it is this one at most
-abbrev pub PlaceBy : ℕ → Read → Type 0
-PlaceBy limit (read.Filter selector action) = Unit {0}
-PlaceBy limit (read.SetAside kind) = Unit {0}
-PlaceBy limit (read.Malformed cause place) = place ≤ limit
-
 -- its selector may be asked, over a table of these patterns
 abbrev pub IsProperLine : List Written → ListLine → Type 0
 IsProperLine patterns Nothing = Unit {0}
-IsProperLine patterns (Hides selector) = is_proper patterns selector ≡ true
+IsProperLine patterns (Hides selector) = (is_proper patterns selector ≡ true) × (have_degrees selector ≡ true)
 IsProperLine patterns (NotedLine finding) = Unit {0}

@@ -3,9 +3,9 @@ ghost use Rattle.std.specs.Prelude.{◌≡◌, ◌-◌, List, IfOk};
 ghost use Rattle.cos_patterns.specs.declared.written.Written.{Written};
 ghost use Rattle.cos_patterns.specs.Tables.{Agrees, Extends};
 ghost use Rattle.selector_parser.specs.Lasting.{Lasts};
-ghost use Rattle.selector_parser.specs.Readings.{unnumbered_read, IsProperRead};
+ghost use Rattle.selector_parser.specs.Readings.{unnumbered_read, IsProperRead, PlaceBy};
 ghost use Rattle.list_reader.specs.Lines.{by_read, line_of};
-ghost use Rattle.list_reader.specs.Meanings.{form_meaning, meaning_of, EndsBy, PlaceBy, IsProperLine};
+ghost use Rattle.list_reader.specs.Meanings.{form_meaning, meaning_of, EndsBy, IsProperLine};
 
 use crate::LINE_LIMIT;
 use crate::form::{LineForm, line_form};

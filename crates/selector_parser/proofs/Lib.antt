@@ -1,6 +1,8 @@
 pub mod Args
+pub mod Finds
 pub mod Layers
 pub mod Numbers
+pub mod Places
 pub mod Puts
 pub mod Readings
 pub mod Stages

@@ -1,5 +1,6 @@
 -- What a put of a pattern says of this table and of each later one.
 use Rattle.std.proofs.Common.{◌≡◌, ◌↔◌, ◌+◌, ◌<◌, ℕ, suc, Bool, true, false, List, [], ◌∷◌, ◌++◌, length, take, drop, get_or, Option, Some, Result, Ok, IsTrue, arith, refl, ap, sym, ◌∙◌, subst, drop-cons, add-one}
+use Rattle.std.specs.Bool.{MatchBool}
 use Rattle.std.specs.List.{All}
 use Rattle.std.specs.Option.{option_or}
 use Rattle.std.specs.Result.{IsErrOf}
@@ -19,6 +20,7 @@ use Rattle.selector_spelling.specs.declared.reading.Ask.{Ask}
 use Rattle.selector_spelling.specs.Bytes.{Bytes}
 use Rattle.selector_spelling.specs.Texts.{found, by_answer, first_refused}
 use Rattle.selector_parser.specs.Answers.{answer_by}
+use Rattle.selector_parser.specs.Asked.{Puts, PutsEach}
 use Rattle.selector_parser.specs.Lasting.{Lasts}
 
 -- a pattern that is held stands in no list of refusals
@@ -90,3 +92,28 @@ module _ (earlier later : Noted) (asks : List Ask) (place : ℕ) (ask : Ask) (re
       All-more (λ (one : Ask). is_in (written one.body one.flags) later.patterns ≡ true) asks place ask within
       (held_on earlier later (take place asks) extends before)
       (subst (λ (one : Ask). is_in (written one.body one.flags) later.patterns ≡ true) is here)
+
+-- ---- what the maker is asked for
+
+-- what was put, and what the puts that are left leave, is what all puts leave
+abbrev pub GoOn : {Maker : Type 0} → (Maker → Asked → Maker → Type 0) → List Ask → Noted → Maker → List Ask → Noted → Maker → Type 0
+GoOn {Maker} asks left table maker all first_table first_maker =
+    (after : Noted) (now : Maker) → PutsEach asks left table maker after now → PutsEach asks all first_table first_maker after now
+
+module _ {Maker : Type 0} (asks : Maker → Asked → Maker → Type 0) (all asked : List Ask) (place : ℕ) (ask : Ask) (within : place < length asked)
+    (is : ask ≡ get_or asked place ask) (first table next : Noted) (first_maker maker between : Maker)
+    (puts : Puts asks (written ask.body ask.flags) table maker next between)
+    (before : GoOn asks (drop place asked) table maker all first first_maker) where
+  abbrev held : Bool
+  held = is_in (written ask.body ask.flags) next.patterns
+
+  next_leaves : (after : Noted) (now : Maker) → MatchBool held (PutsEach asks (drop (place + 1) asked) next between after now) ((after ≡ next) × (now ≡ between)) →
+      PutsEach asks all first first_maker after now
+  next_leaves after now rest =
+      before after now (subst (λ (left : List Ask). PutsEach asks left table maker after now) (sym (at_place asked place ask ask within is)) (next, between, puts, rest))
+
+  pub found_goes_on : held ≡ true → GoOn asks (drop (place + 1) asked) next between all first first_maker
+  found_goes_on is_held = λ after now rest. next_leaves after now (rw is_held rest)
+
+  pub refused_ends : held ≡ false → PutsEach asks all first first_maker next between
+  refused_ends not_held = next_leaves next between (rw not_held (refl, refl))

@@ -1,4 +1,5 @@
 pub mod Answers
+pub mod Asked
 pub mod Lasting
 pub mod Numbered
 pub mod Readings

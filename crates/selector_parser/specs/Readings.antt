@@ -1,5 +1,5 @@
 -- What a text is read as: a selector with its action, the kind that it is set aside for, or its cause and place.
-use Rattle.std.specs.Prelude.{◌≡◌, true, List, Result, Ok, Err}
+use Rattle.std.specs.Prelude.{◌≡◌, ℕ, ◌≤◌, true, List, Result, Ok, Err}
 use Rattle.cos_patterns.specs.declared.written.Asked.{Asked}
 use Rattle.cos_patterns.specs.declared.written.Written.{Written}
 use Rattle.proper_filters.specs.Proper.{is_proper}
@@ -35,6 +35,12 @@ abbrev pub numbered_read : List Written → Read → Read
 numbered_read patterns (Filter selector action) = Filter (numbered patterns selector) action
 numbered_read patterns (SetAside kind) = SetAside kind
 numbered_read patterns (Malformed cause at) = Malformed cause at
+
+-- the place of what makes a text malformed is this one at most
+abbrev pub PlaceBy : ℕ → Read → Type 0
+PlaceBy limit (Filter selector action) = Unit {0}
+PlaceBy limit (SetAside kind) = Unit {0}
+PlaceBy limit (Malformed cause at) = at ≤ limit
 
 -- a filter that is read is proper: `:others()` stands in its own chains alone, each `:upward(n)` has a number of at least 1,
 -- and each pattern stands in the table under its number

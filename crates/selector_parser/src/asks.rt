@@ -1,12 +1,13 @@
 // The patterns of a text, put into a table in text order.
-ghost use Rattle.std.specs.Prelude.{◌≡◌, ◌+◌, ◌<◌, nat_lt, length, Option, None, true, IfOk};
+ghost use Rattle.std.specs.Prelude.{◌≡◌, ◌+◌, ◌<◌, nat_lt, length, Option, None, true, IfOk, OnOk};
 ghost use Rattle.std.specs.List.{All};
-ghost use Rattle.std.specs.Option.{option_or};
+ghost use Rattle.std.specs.Option.{is_none, option_or};
 ghost use Rattle.cos_patterns.specs.Tables.{Agrees, Extends};
 ghost use Rattle.cos_patterns.specs.Written.{written, is_in};
 ghost use Rattle.selector_spelling.specs.declared.finding.Finding.{Finding};
 ghost use Rattle.selector_spelling.specs.Texts.{by_answer, first_refused};
 ghost use Rattle.selector_parser.specs.Answers.{answer_by};
+ghost use Rattle.selector_parser.specs.Asked.{Puts, PutsEach};
 ghost use Rattle.selector_parser.specs.Lasting.{Lasts};
 
 use cos_patterns::{Maker, PatternError, PatternTable};
@@ -26,6 +27,7 @@ pub(crate) fn put_asks<M: Maker>(
     ensures answer { IfOk result (λ refusal. Lasts table.new (λ large unread. refusal ≡ first_refused (answer_by large unread) asks.now)) }
     ensures held { IfOk result (λ refusal. refusal ≡ None →
         All (λ ask. is_in (written ask.body ask.flags) table.new.patterns ≡ true) asks.now) }
+    ensures asked { OnOk result (PutsEach M.asks asks.now table.old maker.old table.new maker.new) }
 {
     for ask in asks {
         if let Some(refusal) = put_ask(table, maker, ask)? {
@@ -47,7 +49,8 @@ fn put_ask<M: Maker>(
     ensures extends { Extends table.old table.new }
     ensures answer { IfOk result (λ refusal. Lasts table.new (λ large unread. (others : Option Finding) →
         by_answer (answer_by large unread ask.now.body ask.now.flags) ask.now.at others ≡ option_or refusal others)) }
-    ensures held { IfOk result (λ refusal. refusal ≡ None → is_in (written ask.now.body ask.now.flags) table.new.patterns ≡ true) }
+    ensures held { IfOk result (λ refusal. is_in (written ask.now.body ask.now.flags) table.new.patterns ≡ is_none refusal) }
+    ensures asked { OnOk result (Puts M.asks (written ask.now.body ask.now.flags) table.old maker.old table.new maker.new) }
 {
     if !has_room(table, ask.body.as_str()) {
         return Err(AllocError);

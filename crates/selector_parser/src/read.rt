@@ -1,9 +1,10 @@
-ghost use Rattle.std.specs.Prelude.{◌≡◌, [], Err, IfOk};
+ghost use Rattle.std.specs.Prelude.{◌≡◌, [], length, Err, IfOk, OnOk};
 ghost use Rattle.cos_patterns.specs.Tables.{Agrees, Extends};
 ghost use Rattle.selector_spelling.specs.Texts.{action_of};
+ghost use Rattle.selector_parser.specs.Asked.{patterns_of, PutsEach};
 ghost use Rattle.selector_parser.specs.Lasting.{Lasts};
 ghost use Rattle.selector_parser.specs.Numbered.{numbered};
-ghost use Rattle.selector_parser.specs.Readings.{reading, read_by, unnumbered_read, numbered_read, IsProperRead};
+ghost use Rattle.selector_parser.specs.Readings.{reading, read_by, unnumbered_read, numbered_read, IsProperRead, PlaceBy};
 
 use crate::asks::put_asks;
 use crate::numbering::numbered;
@@ -42,6 +43,8 @@ pub fn read_selector<M: Maker>(
     // The answer stays true for what the table notes later.
     ensures lasting { IfOk result (λ read. Lasts table.new (λ large unread. unnumbered_read read ≡ read_by large unread text.now)) }
     ensures proper { IfOk result (IsProperRead table.new.patterns) }
+    ensures within { IfOk result (PlaceBy (length text.now)) }
+    ensures asked { OnOk result (PutsEach M.asks (patterns_of text.now) table.old maker.old table.new maker.new) }
     ensures numbers { IfOk result (λ read. read ≡ numbered_read table.new.patterns read) }
 {
     let chains = match read_spelling(alloc, text)? {

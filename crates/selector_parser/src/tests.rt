@@ -110,6 +110,9 @@ const ATTRIBUTES: &[Row] = &[
     (r#"[ A = "B" ]"#, Is(r#"[a="B"]"#)),
     ("[\ta\t~=\tb\t]", Is(r#"[a~="b"]"#)),
     (r#"[a="b"][c]"#, Same),
+    // U+0000 in a string, plain and behind a `\`.
+    ("[a=\"\0\"]", Same),
+    ("[a=\"\\\0\"]", Is("[a=\"\0\"]")),
     // The flags `i` and `s`, of which the second is dropped.
     ("[a=b i]", Is(r#"[a="b" i]"#)),
     (r#"[a="b"i]"#, Is(r#"[a="b" i]"#)),

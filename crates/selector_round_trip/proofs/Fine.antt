@@ -236,7 +236,7 @@ pub escape_hex : (b : ℕ) (text : Bytes) → is_ascii_hexdigit b ≡ true → l
 escape_hex b text h = rw h (omega arith)
 
 escape_other : (b : ℕ) (u v : Bytes) → is_ascii_hexdigit b ≡ false → letter_length (escape (b ∷ u)) ≡ letter_length (escape (b ∷ v))
-escape_other b u v h = elim (cases_Bool (eqb b 0)) [ inl none ↦ rw (h, none) refl | inr some ↦ rw (h, some) refl ]
+escape_other b u v h = rw h refl
 
 least_some : (n : ℕ) → 1 ≤ at_least_one n
 least_some zero = omega arith

@@ -47,7 +47,7 @@ calm_raw b rest x y z = record { kept = refl; ends = rw (x, y, z) refl }
 
 -- behind `\` and a character that is no digit
 escape_skips : (b : ℕ) (rest : Bytes) → is_ascii_hexdigit b ≡ false → at_least_one (letter_length (spelled.escape (b ∷ rest))) ≡ 1
-escape_skips b rest h = elim (cases_Bool (eqb b 0)) [ inl none ↦ rw (h, none) refl | inr some ↦ rw (h, some) refl ]
+escape_skips b rest h = rw h refl
 
 closed_passes : (k : ℕ) → Passes (IsClosed k)
 closed_passes k = record {
@@ -134,8 +134,8 @@ quoted_as b n (Some t) = refl
 string-plain : (b : ℕ) (rest : Bytes) → eqb b 34 ≡ false → eqb b 92 ≡ false → string 34 zero (b ∷ rest) ≡ with_byte b (string 34 zero rest)
 string-plain b rest x y = rw (x, y) (quoted_as b 1 (string 34 zero rest))
 
-string-escaped : (b : ℕ) (rest : Bytes) → is_ascii_hexdigit b ≡ false → eqb b 0 ≡ false → string 34 zero (backslash ∷ b ∷ rest) ≡ with_byte b (string 34 zero rest)
-string-escaped b rest h k = rw (h, k) (quoted_as b 2 (string 34 zero rest))
+string-escaped : (b : ℕ) (rest : Bytes) → is_ascii_hexdigit b ≡ false → string 34 zero (backslash ∷ b ∷ rest) ≡ with_byte b (string 34 zero rest)
+string-escaped b rest h = rw h (quoted_as b 2 (string 34 zero rest))
 
 string-one : (d : ℕ) (rest : Bytes) → is_ascii_hexdigit d ≡ true → string 34 zero (backslash ∷ d ∷ 32 ∷ rest) ≡ quoted (Some (record { value = character (number 16 (d ∷ [])); length = 3 })) (string 34 zero rest)
 string-one d rest h = rw h refl
@@ -164,19 +164,12 @@ control_some b h =
       | inr is ↦ (let e = eqb-true b 127 is in omega arith)
     ]
 
-marked_some : (b : ℕ) → (eqb b 34 || eqb b 92) ≡ true → eqb b 0 ≡ false
-marked_some b h =
-    elim (or_cases (eqb b 34) (eqb b 92) h) [
-      | inl is ↦ ap (λ (n : ℕ). eqb n 0) (eqb-true b 34 is)
-      | inr is ↦ ap (λ (n : ℕ). eqb n 0) (eqb-true b 92 is)
-    ]
-
 string-letter : (b : ℕ) (rest : Bytes) → string 34 zero (letter Quoted b ++ rest) ≡ with_byte b (string 34 zero rest)
 string-letter b rest =
     elim (cases_Bool (is_control b)) [
       | inl by_number ↦ ap (λ (v : Bytes). string 34 zero (v ++ rest)) (letter-numbered Quoted b by_number) ∙ string-numbered b rest (control_some b by_number) (control_low b by_number)
       | inr other ↦ elim (cases_Bool (eqb b 34 || eqb b 92)) [
-        | inl marked ↦ ap (λ (v : Bytes). string 34 zero (v ++ rest)) (letter-marked Quoted b other marked) ∙ string-escaped b rest (is_marked_byte b marked) (marked_some b marked)
+        | inl marked ↦ ap (λ (v : Bytes). string 34 zero (v ++ rest)) (letter-marked Quoted b other marked) ∙ string-escaped b rest (is_marked_byte b marked)
         | inr plain ↦ (
             let p = or_parts (eqb b 34) (eqb b 92) plain in
             ap (λ (v : Bytes). string 34 zero (v ++ rest)) (letter-plain Quoted b other plain) ∙ string-plain b rest p.0 p.1)

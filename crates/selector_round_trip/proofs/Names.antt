@@ -13,7 +13,7 @@ use Rattle.selector_tree.specs.declared.letters.Spelling.TheVariants.{Name}
 use Rattle.selector_tree.specs.Letters.{is_digit, is_name_byte, is_control, hexadecimal, numbered, is_numbered, is_marked, letter, letters, begun, behind_dash, name_text}
 use Rattle.selector_tree.proofs.Spelled.{encode-high}
 use Rattle.selector_spelling.specs.Bytes.{Bytes, front, is_empty, number, minus, backslash}
-use Rattle.selector_spelling.specs.Names.{Letter, Taken, onto, joined, run, name, character, escape, letter_length, begins_name, begins_behind_minus, begins_letter}
+use Rattle.selector_spelling.specs.Names.{Letter, Taken, onto, joined, run, name, character, escaped, letter_length, begins_name, begins_behind_minus, begins_letter}
 use Rattle.selector_spelling.specs.Names as spelled
 use Rattle.selector_round_trip.proofs.Classes.{below_128, not_hex, control_low, digit_low}
 
@@ -23,13 +23,17 @@ run-plain : (b : ℕ) (rest : Bytes) → is_name_byte b ≡ true → run zero (b
 run-plain b rest h = rw h refl
 
 run-escaped : (b : ℕ) (rest : Bytes) → is_ascii_hexdigit b ≡ false → eqb b 0 ≡ false → run zero (backslash ∷ b ∷ rest) ≡ onto (b ∷ []) (run zero rest)
-run-escaped b rest h k = rw (h, k) refl
+run-escaped b rest h k = rw (k, h) refl
+
+-- U+0000 is no digit
+hex_some : (d : ℕ) → is_ascii_hexdigit d ≡ true → eqb d 0 ≡ false
+hex_some d h = ne_eqb d 0 (λ e. both_ways (is_ascii_hexdigit d) (ap is_ascii_hexdigit e) h)
 
 run-one : (d : ℕ) (rest : Bytes) → is_ascii_hexdigit d ≡ true → run zero (backslash ∷ d ∷ 32 ∷ rest) ≡ onto (character (number 16 (d ∷ []))) (run zero rest)
-run-one d rest h = rw h refl
+run-one d rest h = rw (hex_some d h, h) refl
 
 run-two : (d e : ℕ) (rest : Bytes) → is_ascii_hexdigit d ≡ true → is_ascii_hexdigit e ≡ true → run zero (backslash ∷ d ∷ e ∷ 32 ∷ rest) ≡ onto (character (number 16 (d ∷ e ∷ []))) (run zero rest)
-run-two d e rest h k = rw (h, k) refl
+run-two d e rest h k = rw (hex_some d h, h, k) refl
 
 pub character-ascii : (b : ℕ) → 0 < b → b < 128 → character b ≡ b ∷ []
 character-ascii b some low =
@@ -159,7 +163,7 @@ minus_again (b ∷ text) rest fits ends = ap (onto (minus ∷ [])) (begun_again 
 escape_some : (d : ℕ) (rest : Bytes) → 0 < d → begins_behind_minus (backslash ∷ d ∷ rest) ≡ true
 escape_some d rest some =
     let k : eqb d 0 ≡ false = ne_eqb d 0 (λ e. omega arith) in
-    elim (cases_Bool (is_ascii_hexdigit d)) [ inl h ↦ rw h refl | inr h ↦ rw (h, k) refl ]
+    elim (cases_Bool (is_ascii_hexdigit d)) [ inl h ↦ rw (k, h) refl | inr h ↦ rw (k, h) refl ]
 
 digit_char_some : (d : ℕ) → 0 < digit_char d
 digit_char_some d = elim (cases_Bool (ltb d 10)) [ inl h ↦ rw h (omega arith) | inr h ↦ rw h (omega arith) ]
@@ -403,11 +407,12 @@ one_read b some = record { name = (some, tt); some = refl }
 some_byte : (b : ℕ) → eqb b 0 ≡ false → 0 < b
 some_byte b h = let r = eqb-false b 0 h in omega (arith, r)
 
-escape_read : (text : Bytes) → OnLetter (escape text)
-escape_read [] = tt
-escape_read (b ∷ text) =
-    on_cond (is_ascii_hexdigit b) _ _ (λ h. character_read (number 16 (front is_ascii_hexdigit (take 6 (b ∷ text)))))
-    (λ h. on_cond (eqb b 0) _ _ (λ k. tt) (λ k. one_read b (some_byte b k)))
+escaped_read : (text : Bytes) → OnLetter (escaped is_name_byte text)
+escaped_read [] = tt
+escaped_read (b ∷ text) =
+    on_cond (eqb b 0) _ _ (λ k. tt)
+    (λ k. on_cond (is_ascii_hexdigit b) _ _ (λ h. character_read (number 16 (front is_ascii_hexdigit (take 6 (b ∷ text)))))
+    (λ h. one_read b (some_byte b k)))
 
 behind_read : (o : Option Letter) → OnLetter o → OnLetter (spelled.behind_backslash o)
 behind_read None h = tt
@@ -419,7 +424,7 @@ name_byte_some b h = elim (cases_lt 0 b) [ inl some ↦ some | inr none ↦ (let
 letter_read : (b : ℕ) (text : Bytes) → OnLetter (spelled.letter is_name_byte b text)
 letter_read b text =
     on_cond (is_name_byte b) _ _ (λ h. one_read b (name_byte_some b h))
-    (λ h. on_cond (eqb b backslash) _ _ (λ k. behind_read (escape text) (escape_read text)) (λ k. tt))
+    (λ h. on_cond (eqb b backslash) _ _ (λ k. behind_read (escaped is_name_byte text) (escaped_read text)) (λ k. tt))
 
 joined_name : (o : Option Letter) (text : Bytes) (more : Taken) → OnLetter o → IsName more.value → IsName (joined o text more).value
 joined_name None text more h g = tt

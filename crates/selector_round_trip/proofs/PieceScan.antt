@@ -9,7 +9,7 @@ use Rattle.selector_tree.specs.Letters.{is_name_byte}
 use Rattle.selector_spelling.specs.declared.open.Open.{Open}
 use Rattle.selector_spelling.specs.declared.open.Open.TheVariants.{Selector, Raw, Round, Square, DoubleQuote, SingleQuote}
 use Rattle.selector_spelling.specs.Bytes.{Bytes, begins_with, front, behind, is_empty, is_pseudo_byte, is_quote, colon, backslash, round_open, round_close, square_open, square_close}
-use Rattle.selector_spelling.specs.Names.{Letter, Taken, onto, joined, run, name, escape, letter_length, begins_name, begins_behind_minus, begins_letter}
+use Rattle.selector_spelling.specs.Names.{Letter, Taken, onto, joined, run, name, escape, escaped, letter_length, begins_name, begins_behind_minus, begins_letter}
 use Rattle.selector_spelling.specs.Names as spelled
 use Rattle.selector_spelling.specs.Scan.{Scan, standing, bare, is_bare, at_least_one, is_wrong, behind_name, behind_backslash, in_pieces, inside, unless_skipped, step, within}
 use Rattle.selector_round_trip.proofs.Scanned.{over}
@@ -111,10 +111,15 @@ escape_some (b ∷ text) l h =
     let e : letter_length (escape (b ∷ text)) ≡ l.length = ap letter_length h in
     elim (cases_Bool (is_ascii_hexdigit b)) [
       | inl hex ↦ (let n : l.length ≡ suc (number_length 5 text) = sym e ∙ escape_hex b text hex in ap at_least_one n ∙ sym n)
-      | inr other ↦ elim (cases_Bool (eqb b 0)) [
-        | inl none ↦ absurd (let w : None ≡ Some l = sym (rw (other, none) refl) ∙ h in cc)
-        | inr some ↦ (let n : l.length ≡ 1 = sym e ∙ rw (other, some) refl in ap at_least_one n ∙ sym n)
-      ]
+      | inr other ↦ (let n : l.length ≡ 1 = sym e ∙ rw other refl in ap at_least_one n ∙ sym n)
+    ]
+
+-- an escape in a name is one for the scan
+escaped_is : (text : Bytes) (l : Letter) → escaped is_name_byte text ≡ Some l → escape text ≡ Some l
+escaped_is text l h =
+    elim (cases_Bool (begins_with 0 text)) [
+      | inl zero_first ↦ absurd (let w : None ≡ Some l = ap (λ (c : Bool). if c then None else escape text) (sym zero_first) ∙ h in cc)
+      | inr other ↦ ap (λ (c : Bool). if c then None else escape text) (sym other) ∙ h
     ]
 
 abbrev starts_letter : ℕ → Bytes → Bool
@@ -139,14 +144,14 @@ run_more k b text rest j h = record { used = b ∷ h.used; is = ap (λ (t : Byte
 run_stays : (b : ℕ) (text : Bytes) → fine bare (b ∷ text) ≡ true → starts_letter zero (b ∷ text) ≡ false → Left_over zero (b ∷ text) (b ∷ text)
 run_stays b text h none = record { used = []; is = refl; fine = h; some = λ (e : starts_letter zero (b ∷ text) ≡ true). absurd (both_ways (starts_letter zero (b ∷ text)) none e) }
 
-run_escape : (b : ℕ) (text : Bytes) (o : Option Letter) → escape text ≡ o → spelled.letter is_name_byte b text ≡ spelled.behind_backslash o → eqb b backslash ≡ true → fine bare (b ∷ text) ≡ true
+run_escape : (b : ℕ) (text : Bytes) (o : Option Letter) → escaped is_name_byte text ≡ o → spelled.letter is_name_byte b text ≡ spelled.behind_backslash o → eqb b backslash ≡ true → fine bare (b ∷ text) ≡ true
     → ((k : ℕ) → fine (skipping k) text ≡ true → Left_over k text (run k text).rest)
     → Left_over zero (b ∷ text) (joined (spelled.behind_backslash o) (b ∷ text) (run (letter_length (spelled.behind_backslash o) - 1) text)).rest
 run_escape b text None e l is h more = run_stays b text h (ap (λ (o : Option Letter). is_some o) l)
 run_escape b text (Some x) e l is h more =
     let n : x.length + 1 - 1 ≡ x.length = omega arith in
     let f : step bare b text ≡ skipping x.length =
-    ap (λ (c : Bool). if c then behind_backslash [] text else inside None bare b text) is ∙ ap (λ (o : Option Letter). skipping (at_least_one (letter_length o))) e ∙ ap skipping (escape_some text x e) in
+    ap (λ (c : Bool). if c then behind_backslash [] text else inside None bare b text) is ∙ ap (λ (o : Option Letter). skipping (at_least_one (letter_length o))) (escaped_is text x e) ∙ ap skipping (escape_some text x (escaped_is text x e)) in
     let g : fine (skipping x.length) text ≡ true = ap (λ (s : Scan). fine s text) (sym f) ∙ (and_parts (not (is_wrong bare b)) (fine (step bare b text) text) h).1 in
     run_more zero b text (run (x.length + 1 - 1) text).rest x.length (subst (λ (k : ℕ). Left_over x.length text (run k text).rest) (sym n) (more x.length g))
 
@@ -160,19 +165,19 @@ run_fine zero (b ∷ text) h =
     let l = spelled.letter is_name_byte b text in
     elim (cases_Bool (is_name_byte b)) [
       | inl plain ↦ (
-          let e : l ≡ Some (record { value = b ∷ []; length = 1 }) = ap (λ (c : Bool). if c then Some (record { value = b ∷ []; length = 1 }) else if eqb b backslash then spelled.behind_backslash (escape text) else None) plain in
+          let e : l ≡ Some (record { value = b ∷ []; length = 1 }) = ap (λ (c : Bool). if c then Some (record { value = b ∷ []; length = 1 }) else if eqb b backslash then spelled.behind_backslash (escaped is_name_byte text) else None) plain in
           let f : step bare b text ≡ bare = (calm_closed 0 b text (calm_name b plain)).ends in
           subst (λ (o : Option Letter). Left_over zero (b ∷ text) (after_letter o)) (sym e)
           (run_more zero b text (run 0 text).rest 0 (run_fine zero text (ap (λ (s : Scan). fine s text) (sym f) ∙ tail))))
       | inr other ↦ (
-          let first : l ≡ (if eqb b backslash then spelled.behind_backslash (escape text) else None) = ap (λ (c : Bool). if c then Some (record { value = b ∷ []; length = 1 }) else if eqb b backslash then spelled.behind_backslash (escape text) else None) other in
+          let first : l ≡ (if eqb b backslash then spelled.behind_backslash (escaped is_name_byte text) else None) = ap (λ (c : Bool). if c then Some (record { value = b ∷ []; length = 1 }) else if eqb b backslash then spelled.behind_backslash (escaped is_name_byte text) else None) other in
           elim (cases_Bool (eqb b backslash)) [
             | inl is ↦ (
-                let e : l ≡ spelled.behind_backslash (escape text) = first ∙ ap (λ (c : Bool). if c then spelled.behind_backslash (escape text) else None) is in
+                let e : l ≡ spelled.behind_backslash (escaped is_name_byte text) = first ∙ ap (λ (c : Bool). if c then spelled.behind_backslash (escaped is_name_byte text) else None) is in
                 subst (λ (o : Option Letter). Left_over zero (b ∷ text) (after_letter o)) (sym e)
-                (run_escape b text (escape text) refl e is h (λ k g. run_fine k text g)))
+                (run_escape b text (escaped is_name_byte text) refl e is h (λ k g. run_fine k text g)))
             | inr none ↦ (
-                let e : l ≡ None = first ∙ ap (λ (c : Bool). if c then spelled.behind_backslash (escape text) else None) none in
+                let e : l ≡ None = first ∙ ap (λ (c : Bool). if c then spelled.behind_backslash (escaped is_name_byte text) else None) none in
                 subst (λ (o : Option Letter). Left_over zero (b ∷ text) (after_letter o)) (sym e) (run_stays b text h (ap (λ (o : Option Letter). is_some o) e)))
           ])
     ]

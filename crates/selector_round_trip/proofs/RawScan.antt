@@ -70,10 +70,7 @@ skips (b ∷ text) =
           let n = number_length 5 text in
           let e : letter_length (escape (b ∷ text)) ≡ suc n = rw hex (omega arith) in
           record { more = n; is = ap at_least_one e; skippable = number_skippable 5 text })
-      | inr other ↦ elim (cases_Bool (eqb b 0)) [
-        | inl none ↦ skips_one (b ∷ text) (rw (other, none) refl)
-        | inr some ↦ skips_one (b ∷ text) (rw (other, some) refl)
-      ]
+      | inr other ↦ skips_one (b ∷ text) (rw other refl)
     ]
 
 -- ---- the scan

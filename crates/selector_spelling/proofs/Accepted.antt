@@ -113,6 +113,13 @@ attribute = refl
 attribute_equals : reads (codes "[a=b]") ≡ hides ((step.Keep (test.Attr (codes "a") op.Equals (codes "b") false) ∷ []) ∷ [])
 attribute_equals = refl
 
+-- U+0000 in a string, plain and behind a `\`
+attribute_zero : reads (91 ∷ 97 ∷ 61 ∷ 34 ∷ 0 ∷ 34 ∷ 93 ∷ []) ≡ hides ((step.Keep (test.Attr (codes "a") op.Equals (0 ∷ []) false) ∷ []) ∷ [])
+attribute_zero = refl
+
+attribute_escaped_zero : reads (91 ∷ 97 ∷ 61 ∷ 34 ∷ 92 ∷ 0 ∷ 34 ∷ 93 ∷ []) ≡ hides ((step.Keep (test.Attr (codes "a") op.Equals (0 ∷ []) false) ∷ []) ∷ [])
+attribute_escaped_zero = refl
+
 attribute_word : reads (codes "[a~=b]") ≡ hides ((step.Keep (test.Attr (codes "a") op.Word (codes "b") false) ∷ []) ∷ [])
 attribute_word = refl
 

@@ -3,7 +3,7 @@ use Rattle.std.specs.Prelude.{ℕ, zero, suc, ◌+◌, ◌-◌, nat_le, nat_lt, 
 use Rattle.std.specs.Char.{is_ascii_digit, is_ascii_hexdigit}
 use Rattle.cos_source.specs.Spaces.{is_space}
 use Rattle.selector_tree.specs.Letters.{is_name_byte}
-use Rattle.selector_spelling.specs.Bytes.{Bytes, front, number, minus, backslash}
+use Rattle.selector_spelling.specs.Bytes.{Bytes, front, begins_with, number, minus, backslash}
 
 -- what something at the front of a text stands for, and how many bytes it takes
 pub record Letter : Type 0 where
@@ -23,13 +23,17 @@ abbrev pub numbered : Bytes → Bytes → Letter
 numbered digits rest = record { value = character (number 16 digits); length = length digits + space_length rest }
 
 -- An escape, from behind its `\` on: up to six hexadecimal digits and one white space, or another character, of which the
--- first byte is enough here. U+0000 is part of no name, so `\` before it is no escape.
+-- first byte is enough here.
 abbrev pub escape : Bytes → Option Letter
 escape [] = None
 escape (b ∷ text) =
     if is_ascii_hexdigit b then (let digits = front is_ascii_hexdigit (take 6 (b ∷ text)) in Some (numbered digits (drop (length digits) (b ∷ text))))
-    else if b == 0 then None
     else Some (record { value = b ∷ []; length = 1 })
+
+-- An escape among bytes of which these stand for themselves. U+0000 is no part of a name, also behind `\`; in a string it is
+-- a character as any other.
+abbrev pub escaped : (ℕ → Bool) → Bytes → Option Letter
+escaped plain text = if not (plain 0) && begins_with 0 text then None else escape text
 
 -- how many bytes an escape takes behind its `\`
 abbrev pub letter_length : Option Letter → ℕ
@@ -44,7 +48,7 @@ behind_backslash (Some l) = Some (record { value = l.value; length = l.length + 
 abbrev pub letter : (ℕ → Bool) → ℕ → Bytes → Option Letter
 letter plain b text =
     if plain b then Some (record { value = b ∷ []; length = 1 })
-    else if b == backslash then behind_backslash (escape text)
+    else if b == backslash then behind_backslash (escaped plain text)
     else None
 
 -- a value at the front of a text, and the text behind it

@@ -1,6 +1,6 @@
 -- Letters of names and strings: escapes, and characters that stand for themselves.
 use denote.Ref.{Bor}
-use Rattle.std.proofs.Common.{◌≡◌, ℕ, zero, suc, ◌+◌, ◌-◌, ◌<◌, ◌≤◌, Bool, true, false, eqb, ◌||◌, [], ◌∷◌, ◌++◌, length, get_or, drop, Option, Some, None, refl, sym, ap, ◌∙◌, append_assoc, arith, inl, inr}
+use Rattle.std.proofs.Common.{◌≡◌, ℕ, zero, suc, ◌+◌, ◌-◌, ◌<◌, ◌≤◌, Bool, true, false, not, eqb, ◌&&◌, ◌||◌, if◌then◌else◌, [], ◌∷◌, ◌++◌, length, get_or, drop, Option, Some, None, refl, sym, ap, ◌∙◌, append_assoc, arith, inl, inr}
 use Rattle.std.specs.Prelude.{encode_utf8, MatchOption}
 use Rattle.std.specs.Char.{is_ascii_hexdigit}
 use Rattle.std.specs.List.{AllByRecursion}
@@ -8,7 +8,7 @@ use Rattle.std.proofs.lemmas.List.{length-append, append-nil, drop-drop, nil_fro
 use Rattle.std.proofs.lemmas.Bool.{cases_lt, cases_Bool, or_right, ne_eqb, eqb-true, le-leb, false≢true}
 use Rattle.selector_tree.specs.Letters.{is_within, is_digit, is_name_byte}
 use Rattle.selector_spelling.specs.Bytes.{Bytes, number, begins_with, backslash}
-use Rattle.selector_spelling.specs.Names.{Letter, Taken, escape, character, numbered, space_length, letter, behind_backslash, onto, run, quoted, string, is_plain}
+use Rattle.selector_spelling.specs.Names.{Letter, Taken, escape, escaped, character, numbered, space_length, letter, behind_backslash, onto, run, quoted, string, is_plain}
 use Rattle.spelling_reader.specs.declared.names.Plain.{Plain}
 use Rattle.spelling_reader.specs.declared.names.Plain.TheVariants.{InName, InString}
 use Rattle.spelling_reader.specs.Letters.{stands, IsEscape, IsLetter, HasNoLetter}
@@ -39,45 +39,32 @@ by_number text middle rest c n count n-is count-is some middle-is rest-is c-is =
       high = tt;
     }
 
-plain_read : (b : ℕ) (text : Bytes) → hex_front 6 (b ∷ text) ≡ [] → eqb b 0 ≡ false → escape (b ∷ text) ≡ Some (record { value = b ∷ []; length = 1 })
-plain_read b text e nonzero =
+plain_read : (b : ℕ) (text : Bytes) → hex_front 6 (b ∷ text) ≡ [] → escape (b ∷ text) ≡ Some (record { value = b ∷ []; length = 1 })
+plain_read b text e =
     elim (cases_Bool (is_ascii_hexdigit b)) [
       | inl holds ↦ absurd (let f : hex_front 6 (b ∷ text) ≡ b ∷ hex_front 5 text = rw holds refl in let g : [] ≡ b ∷ hex_front 5 text = sym e ∙ f in cc)
-      | inr lacks ↦ rw (lacks, nonzero) refl
+      | inr lacks ↦ rw lacks refl
     ]
 
 no_digits : (text : Bytes) (count : ℕ) → count ≡ length (hex_front 6 text) → count ≤ 0 → hex_front 6 text ≡ []
 no_digits text count count-is none = nil_from_length (hex_front 6 text) (omega (arith, count-is, none))
 
-byte_nonzero : (b c : ℕ) → (c < 128 → b ≡ c) → (128 ≤ c → 128 ≤ b) → (c ≡ 0 → ⊥) → eqb b 0 ≡ false
-byte_nonzero b c low high nonzero =
-    elim (cases_lt c 128) [
-      | inl l ↦ (let e = low l in ne_eqb b 0 (λ z. nonzero (sym e ∙ z)))
-      | inr h ↦ (let k = high h in ne_eqb b 0 (λ z. omega (arith, k, z)))
-    ]
-
-pub by_character : (text rest : Bytes) (c count : ℕ) → count ≡ length (hex_front 6 text) → count ≤ 0 → text ≡ encode_utf8 c ++ rest → (c ≡ 0 → ⊥) → IsEscape text rest c
-by_character text rest c count count-is none e nonzero =
+pub by_character : (text rest : Bytes) (c count : ℕ) → count ≡ length (hex_front 6 text) → count ≤ 0 → text ≡ encode_utf8 c ++ rest → IsEscape text rest c
+by_character text rest c count count-is none e =
     let f = first-byte text rest c e in
     let empty : hex_front 6 (f.byte ∷ (f.tail ++ rest)) ≡ [] = ap (hex_front 6) (sym f.from) ∙ no_digits text count count-is none in
     record {
       first = record { value = f.byte ∷ []; length = 1 };
       tail = f.tail;
-      is = ap escape f.from ∙ plain_read f.byte (f.tail ++ rest) empty (byte_nonzero f.byte c (λ l. (f.low l).0) f.high_byte nonzero);
+      is = ap escape f.from ∙ plain_read f.byte (f.tail ++ rest) empty;
       value = sym f.is;
       rest_is = ap (drop 1) f.from;
       high = f.high;
     }
 
-zero_read : (text : Bytes) → hex_front 6 (0 ∷ text) ≡ [] → escape (0 ∷ text) ≡ None
-zero_read text e = refl
-
-pub no_escape : (text rest : Bytes) (c : ℕ) → text ≡ encode_utf8 c ++ rest → c ≡ 0 → escape text ≡ None
-no_escape text rest c e z =
-    let f = first-byte text rest c e in
-    let b = f.low (omega (arith, z)) in
-    let zero-byte : f.byte ≡ 0 = b.0 ∙ z in
-    ap escape f.from ∙ ap (λ (k : ℕ). escape (k ∷ (f.tail ++ rest))) zero-byte
+-- nothing stands behind a `\` at the end of a text
+pub no_escape : (text : Bytes) → text ≡ [] → escape text ≡ None
+no_escape text e = ap escape e
 
 -- ---- letters
 
@@ -137,10 +124,10 @@ other-letter plain text rest c e lacks other b more from =
 pub no-letter-at-end : (plain : Plain) (text : Bytes) → text ≡ [] → HasNoLetter (stands plain) text
 no-letter-at-end plain text e b more from = absurd (let f : [] ≡ b ∷ more = sym e ∙ from in cc)
 
-letter-escape : (p : ℕ → Bool) (more : Bytes) → p backslash ≡ false → letter p backslash more ≡ behind_backslash (escape more)
+letter-escape : (p : ℕ → Bool) (more : Bytes) → p backslash ≡ false → letter p backslash more ≡ behind_backslash (escaped p more)
 letter-escape p more h = rw h refl
 
-no-escaped-letter : (plain : Plain) (text rest : Bytes) (c : ℕ) → text ≡ encode_utf8 c ++ rest → c ≡ 92 → escape rest ≡ None → HasNoLetter (stands plain) text
+pub no-escaped-letter : (plain : Plain) (text rest : Bytes) (c : ℕ) → text ≡ encode_utf8 c ++ rest → c ≡ 92 → escaped (stands plain) rest ≡ None → HasNoLetter (stands plain) text
 no-escaped-letter plain text rest c e is none b more from =
     let f = first-byte text rest c e in
     let l = f.low (omega (arith, is)) in
@@ -149,9 +136,9 @@ no-escaped-letter plain text rest c e is none b more from =
     ap (λ (k : ℕ). letter (stands plain) k more) (heads b backslash more rest g) ∙ ap (letter (stands plain) backslash) (tails b backslash more rest g) ∙ h
 
 pub escaped-letter : (plain : Plain) (text rest : Bytes) (c : ℕ) (r : Option (ℕ × Bor Bytes)) → text ≡ encode_utf8 c ++ rest → c ≡ 92
-    → MatchOption r (escape rest ≡ None) (λ p. IsEscape rest p.1.now p.0) → MatchOption r (HasNoLetter (stands plain) text) (λ p. IsLetter (stands plain) text p.1.now p.0)
-escaped-letter plain text rest c None e is none = no-escaped-letter plain text rest c e is none
-escaped-letter plain text rest c (Some p) e is s =
+    → escaped (stands plain) rest ≡ escape rest → MatchOption r (escape rest ≡ None) (λ p. IsEscape rest p.1.now p.0) → MatchOption r (HasNoLetter (stands plain) text) (λ p. IsLetter (stands plain) text p.1.now p.0)
+escaped-letter plain text rest c None e is same none = no-escaped-letter plain text rest c e is (same ∙ none)
+escaped-letter plain text rest c (Some p) e is same s =
     let f = first-byte text rest c e in
     let l = f.low (omega (arith, is)) in
     let cons : text ≡ backslash ∷ rest = f.from ∙ ap (λ (v : Bytes). f.byte ∷ (v ++ rest)) l.1 ∙ ap (λ (k : ℕ). k ∷ rest) (l.0 ∙ is) in
@@ -162,12 +149,19 @@ escaped-letter plain text rest c (Some p) e is s =
       from = cons;
       first = record { value = s.first.value; length = s.first.length + 1 };
       tail = s.tail;
-      is = letter-escape (stands plain) rest (stands-backslash plain) ∙ ap behind_backslash s.is;
+      is = letter-escape (stands plain) rest (stands-backslash plain) ∙ ap behind_backslash (same ∙ s.is);
       value = s.value;
       some = omega arith;
       rest_is = ap (λ (v : Bytes). drop (s.first.length + 1) v) cons ∙ ap (λ (k : ℕ). drop k (backslash ∷ rest)) n ∙ s.rest_is;
       high = s.high;
     }
+
+-- U+0000 behind `\` in a name, and every other escape
+pub zero-escaped : (p : ℕ → Bool) (text : Bytes) → (not (p 0) && begins_with 0 text) ≡ true → escaped p text ≡ None
+zero-escaped p text h = ap (λ (c : Bool). if c then None else escape text) h
+
+pub other-escaped : (p : ℕ → Bool) (text : Bytes) → (not (p 0) && begins_with 0 text) ≡ false → escaped p text ≡ escape text
+other-escaped p text h = ap (λ (c : Bool). if c then None else escape text) h
 
 pub letter-shorter : (p : ℕ → Bool) (text rest : Bytes) (c : ℕ) → IsLetter p text rest c → length rest < length text
 letter-shorter p text rest c l =

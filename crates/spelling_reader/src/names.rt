@@ -100,8 +100,7 @@ fn escape(text: &str) -> Option<(char, &str)>
     if count > 0 {
         return Some((character(number), behind_space(split_behind(text, count).1)));
     }
-    let (c, rest) = split_first(text)?;
-    if c == '\0' { None } else { Some((c, rest)) }
+    split_first(text)
 }
 
 fn stands(plain: Plain, c: char) -> bool
@@ -129,6 +128,10 @@ fn letter(plain: Plain, text: &str) -> Option<(char, &str)>
         return Some((c, rest));
     }
     if c != '\\' {
+        return None;
+    }
+    // U+0000 is no part of a name.
+    if !stands(plain, '\0') && begins_with(0, rest.as_bytes()) {
         return None;
     }
     escape(rest)

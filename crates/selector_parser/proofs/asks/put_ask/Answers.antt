@@ -18,8 +18,3 @@ returns-in-Ok-clause-answer g c =
     ap (λ body. by_answer (answer_by large unread body ask.flags) ask.at others) (sym c.as_str-2.ensures)
     ∙ ap (λ answer. by_answer answer ask.at others) (lasts later large unread extends agrees)
 
-pub returns-in-Ok-clause-held : goal.returns-in-Ok-clause-held
-returns-in-Ok-clause-held g c = λ _.
-    let number = rw c.in-Ok.is at c.put.ensures.number in
-    subst (λ (body : Bytes). is_in (written body c.args.ask.now.flags) c.put.new.self.patterns ≡ true) c.as_str-2.ensures
-    (stands (written c.as_str-2.result.now c.args.ask.now.flags) c.put.new.self.patterns c.in-Ok.field-0 number)

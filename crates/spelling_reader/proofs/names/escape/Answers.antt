@@ -12,8 +12,5 @@ returns-then-count-gt0 c =
     (h.ensures.number ∙ ap (λ (v : Bytes). number 16 (hex_front 6 v)) same) (h.ensures.count ∙ ap (λ (v : Bytes). length (hex_front 6 v)) same) c.if-count-gt0.true
     c.split_behind.ensures.back c.behind_space.ensures c.character.ensures
 
-pub returns-else-c-eq0 : goal.returns-else-c-eq0
-returns-else-c-eq0 c =
-    let h = c.hex_number-number in
-    by_character c.args.text.now c.in_ok-c.rest.now c.in_ok-c.c h.result.1 (h.ensures.count ∙ ap (λ (v : Bytes). length (hex_front 6 v)) c.as_bytes.ensures.value) c.if-count-gt0.false
-    c.in_ok-c.ensures c.if-c-eq0.false
+pub returns : goal.returns
+returns c = ?
