@@ -1,1 +1,4 @@
 mod Texts
+mod Told
+mod Inserting
+pub mod Growth

@@ -6,15 +6,17 @@ use Rattle.page_tree.specs.Forest.{Tree}
 use Rattle.page_tree.specs.Edits.{with_attr_set, with_attr_dropped, with_text, detached, moved}
 use Rattle.page_tree.specs.Fragments.{with_fragment}
 use Rattle.page_tree.specs.Refusals.{Refusal, attr_refused, text_refused, graft_refused, detach_refused, relink_refused}
+use Rattle.mutation_script.specs.Errors.{error_of}
 use Rattle.html_meaning.specs.Page.{fragment}
 use Rattle.mutation_script.specs.declared.answer.Answer.{Answer}
 use Rattle.mutation_script.specs.declared.answer.Answer.TheVariants as answers
+use Rattle.mutation_script.specs.declared.answer.Outcome.{Outcome}
+use Rattle.mutation_script.specs.declared.answer.Outcome.TheVariants as outcomes
 use Rattle.mutation_script.specs.declared.mutation.Mutation.{Mutation}
 use Rattle.mutation_script.specs.declared.mutation.Mutation.TheVariants.{SetAttr, DropAttr, SetText, Insert, Delete, Relink, Path}
 use Rattle.mutation_script.specs.declared.mutation.ScriptLine.{ScriptLine}
 use Rattle.mutation_script.specs.declared.mutation.ScriptLine.TheVariants as says
 use Rattle.mutation_script.specs.declared.page.PageState.{PageState}
-use Rattle.mutation_script.specs.Errors.{dom_error}
 
 -- the page with a new tree, or the refusal
 abbrev pub unless_refused : Option Refusal → Tree → PageState → Result PageState Refusal
@@ -47,13 +49,18 @@ after (says.Mutation mutation) page = changed mutation page
 after says.Blank page = page
 after (says.Bad cause) page = page
 
--- how a mutation is answered
-abbrev pub change_answer : Result PageState Refusal → Answer
-change_answer (Ok page) = answers.Done
-change_answer (Err refusal) = answers.Refused (dom_error refusal)
+-- what comes of a mutation
+abbrev pub outcome_of : Result PageState Refusal → Outcome
+outcome_of (Ok page) = outcomes.Done
+outcome_of (Err refusal) = outcomes.Refused (error_of refusal)
+
+-- the answer that says what came of a mutation
+abbrev pub answer_by : Outcome → Answer
+answer_by outcomes.Done = answers.Done
+answer_by (outcomes.Refused error) = answers.Refused error
 
 -- how a line is answered
 abbrev pub answer : ScriptLine → PageState → Answer
-answer (says.Mutation mutation) page = change_answer (change mutation page)
+answer (says.Mutation mutation) page = answer_by (outcome_of (change mutation page))
 answer says.Blank page = answers.Blank
 answer (says.Bad cause) page = answers.Bad cause

@@ -1,4 +1,7 @@
 // How the page and each line of a script are answered.
+ghost use Rattle.std.specs.Prelude.{◌≡◌};
+ghost use Rattle.mutation_script.specs.Changes.{answer_by};
+
 use crate::BadLine;
 use dom_arena::DomError;
 
@@ -24,4 +27,15 @@ pub enum Answer {
     Blank,
     /// The line says no change, for this cause.
     Bad(BadLine),
+}
+
+impl From<Outcome> for Answer {
+    ghost from_gives = { λ outcome given. given ≡ answer_by outcome };
+
+    fn from(outcome: Outcome) -> Answer {
+        match outcome {
+            Outcome::Done => Answer::Done,
+            Outcome::Refused(error) => Answer::Refused(error),
+        }
+    }
 }
