@@ -3,11 +3,12 @@ use Rattle.std.proofs.Common.{◌≡◌, ℕ, ◌<◌, ◌≤◌, ◌==◌, true
 use Rattle.std.specs.Prelude.{option_map, unwrap_or}
 use Rattle.std.specs.Option.{option_or}
 use Rattle.std.proofs.lemmas.Bool.{cases_eq, eq-eqb, ne_eqb, both_ways}
-use Rattle.page_tree.specs.Forest.{Content, document, element, text, comment, Forest, empty, node, Tree, count, find, content, or_some, parent_in, previous_in}
+use Rattle.page_tree.specs.Forest.{Content, document, element, text, comment, Forest, empty, node, Tree, count, find, content, parent_in, previous_in}
 use Rattle.page_tree.specs.Standings.{Sibling, Standing, siblings_of, standings, elements, standing, all, above, before}
 use Rattle.page_tree.specs.Directions.{is_in}
 use Rattle.page_tree.specs.Trees.{IsTree}
 use Rattle.page_tree.proofs.Finding.{same_cases, find-none, find-first, find-below, find-behind}
+use Rattle.page_tree.proofs.Depths.{or_none}
 use Rattle.page_tree.proofs.Elements.{HaveRoom, HasRoom, is_element, stands_as_element, chosen, chosen-none, chosen-append, option_or-none, once-tree, room-tree, is_in-all}
 
 -- a sibling before others, if it is an element
@@ -56,12 +57,6 @@ nodes_before-none k front (node n c kids later) h =
 
 -- ---- numbers below and behind the first node
 
-some_or : {A : Type 0} (o p : Option A) (a : A) → o ≡ Some a → option_or o p ≡ Some a
-some_or o p a h = rw h refl
-
-some_or_some : (o p : Option ℕ) (a : ℕ) → o ≡ Some a → or_some o p ≡ Some a
-some_or_some o p a h = rw h refl
-
 module _ (k n : ℕ) (c : Content) (kids later : Forest) (once : count k (node n c kids later) ≤ 1) where
   module _ (below : 0 < count k kids) where
     apart : k ≡ n → ⊥
@@ -72,17 +67,9 @@ module _ (k n : ℕ) (c : Content) (kids later : Forest) (once : count k (node n
 
     pub previous_in-below : (before : ℕ) → previous_in k before (node n c kids later) ≡ previous_in k 0 kids
     previous_in-below before = rw (ne_eqb k n apart, previous_in-none k n later (omega arith)) (or_none (previous_in k 0 kids))
-      where
-        or_none : (o : Option ℕ) → or_some o None ≡ o
-        or_none None = refl
-        or_none (Some x) = refl
 
     pub nodes_before-below : (front : List (ℕ × Content)) → nodes_before k front (node n c kids later) ≡ nodes_before k [] kids
-    nodes_before-below front = rw (ne_eqb k n apart, nodes_before-none k ((n, c) ∷ front) later (omega arith)) (or_none (nodes_before k [] kids))
-      where
-        or_none : (o : Option (List (ℕ × Content))) → option_or o None ≡ o
-        or_none None = refl
-        or_none (Some x) = refl
+    nodes_before-below front = rw (ne_eqb k n apart, nodes_before-none k ((n, c) ∷ front) later (omega arith)) (option_or-none (nodes_before k [] kids))
 
   module _ (behind : 0 < count k later) where
     apart_behind : k ≡ n → ⊥

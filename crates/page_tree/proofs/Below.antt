@@ -1,9 +1,10 @@
 -- The nodes below a node in document order, each from the one before it.
 use Rattle.std.proofs.Common.{◌≡◌, ℕ, suc, ◌<◌, ◌≤◌, cond, eqb, List, [], ◌∷◌, ◌++◌, Option, Some, None, refl, sym, ◌∙◌, ap, inl, inr, ◌⊎◌, arith, append_assoc}
-use Rattle.std.proofs.lemmas.Bool.{eq-eqb, ne_eqb}
+use Rattle.std.proofs.lemmas.Bool.{cases_eq, eq-eqb, ne_eqb}
 use Rattle.std.proofs.lemmas.List.{append-nil}
-use Rattle.page_tree.specs.Forest.{Content, document, Forest, empty, node, same, count, numbers, first, find, or_else, children, later_of, or_some, first_in, behind, parent_in, depth_in}
-use Rattle.page_tree.proofs.Finding.{same_cases, find-first, find-below, find-behind}
+use Rattle.page_tree.specs.Forest.{Content, document, Forest, empty, node, count, numbers, first, find, children, later_of, or_some, first_in, behind, parent_in, depth_in}
+use Rattle.page_tree.proofs.Finding.{same_cases, same-eq, find-none, find-counted, find-first, find-below, find-behind, found, count-find}
+use Rattle.page_tree.proofs.Depths.{depth_in-none}
 use Rattle.page_tree.proofs.Around.{counted_first, where_is, parent_in-below, parent_in-behind}
 use Rattle.page_tree.proofs.Parts.{inside}
 
@@ -15,7 +16,7 @@ beyond k (node n c kids later) rest =
     (cond (eqb (count k kids) 0) (beyond k later rest) (beyond k kids (or_some (first later) rest)))
 
 -- beyond the first node
-beyond-same : (k n : ℕ) (c : Content) (kids later : Forest) (rest : Option ℕ) → k ≡ n → beyond k (node n c kids later) rest ≡ or_some (first later) rest
+pub beyond-same : (k n : ℕ) (c : Content) (kids later : Forest) (rest : Option ℕ) → k ≡ n → beyond k (node n c kids later) rest ≡ or_some (first later) rest
 beyond-same k n c kids later rest e = rw (eq-eqb k n e) refl
 
 -- beyond a node below the first one
@@ -23,16 +24,16 @@ pub beyond-kids : (k n : ℕ) (c : Content) (kids later : Forest) (rest : Option
 beyond-kids k n c kids later rest ne h = rw (ne_eqb k n ne, ne_eqb (count k kids) 0 (λ e. omega arith)) refl
 
 -- beyond a node behind the first one
-beyond-later : (k n : ℕ) (c : Content) (kids later : Forest) (rest : Option ℕ) → (k ≡ n → ⊥) → count k kids ≡ 0 → beyond k (node n c kids later) rest ≡ beyond k later rest
+pub beyond-later : (k n : ℕ) (c : Content) (kids later : Forest) (rest : Option ℕ) → (k ≡ n → ⊥) → count k kids ≡ 0 → beyond k (node n c kids later) rest ≡ beyond k later rest
 beyond-later k n c kids later rest ne z = rw (ne_eqb k n ne, eq-eqb (count k kids) 0 z) refl
 
 -- the first number of a forest before others
-first_in-numbers : (f : Forest) (xs : List ℕ) → first_in (numbers f ++ xs) ≡ or_some (first f) (first_in xs)
+pub first_in-numbers : (f : Forest) (xs : List ℕ) → first_in (numbers f ++ xs) ≡ or_some (first f) (first_in xs)
 first_in-numbers empty xs = refl
 first_in-numbers (node n c kids later) xs = refl
 
 -- a node that is not in a forest is looked for behind it
-behind-skip : (k : ℕ) (f : Forest) (xs : List ℕ) → count k f ≡ 0 → behind k (numbers f ++ xs) ≡ behind k xs
+pub behind-skip : (k : ℕ) (f : Forest) (xs : List ℕ) → count k f ≡ 0 → behind k (numbers f ++ xs) ≡ behind k xs
 behind-skip k empty xs z = refl
 behind-skip k (node n c kids later) xs z =
     elim (same_cases k n) [
@@ -40,85 +41,58 @@ behind-skip k (node n c kids later) xs z =
       | inr q ↦ rw (q.2, append_assoc (numbers kids) (numbers later) xs) (behind-skip k kids (numbers later ++ xs) (omega arith) ∙ behind-skip k later xs (omega arith))
     ]
 
-counted_same : (k n : ℕ) (c : Content) (kids later : Forest) → k ≡ n → 0 < same k n
-counted_same k n c kids later e = elim (same_cases k n) [ inl p ↦ omega arith | inr p ↦ absurd (p.0 e) ]
-
 -- the number behind a node is its first child's, or else the one beyond it
-behind-numbers : (k : ℕ) (f : Forest) (xs : List ℕ) → ((j : ℕ) → count j f ≤ 1) → 0 < count k f → behind k (numbers f ++ xs) ≡ or_some (first (children (find k f))) (beyond k f (first_in xs))
-behind-numbers k empty xs once h = absurd (omega arith)
-behind-numbers k (node n c kids later) xs once h =
-    elim (where_is k n c kids later h) [
-      | inl e ↦
-          rw (eq-eqb k n e)
-          (ap first_in (append_assoc (numbers kids) (numbers later) xs) ∙ first_in-numbers kids (numbers later ++ xs) ∙ ap (or_some (first kids)) (first_in-numbers later xs))
-      | inr more ↦ elim more [
-        | inl b ↦
-            let ne : k ≡ n → ⊥ = λ e. omega (arith, once k, counted_same k n c kids later e) in
-            skip_first ne (numbers later ++ xs)
-            ∙ behind-numbers k kids (numbers later ++ xs) (λ j. omega (arith, once j)) b
-            ∙ ap (λ (o : Option ℕ). or_some (first (children (find k kids))) (beyond k kids o)) (first_in-numbers later xs)
-            ∙ ap (λ (g : Forest). or_some (first (children g)) (beyond k kids (or_some (first later) (first_in xs)))) (sym (find-below k n c kids later (once k) b))
-            ∙ ap (or_some (first (children (find k (node n c kids later))))) (sym (beyond-kids k n c kids later (first_in xs) ne b))
-        | inr b ↦
-            let ne : k ≡ n → ⊥ = λ e. omega (arith, once k, counted_same k n c kids later e) in
-            skip_first ne (numbers later ++ xs)
-            ∙ behind-skip k kids (numbers later ++ xs) (omega (arith, once k))
-            ∙ behind-numbers k later xs (λ j. omega (arith, once j)) b
-            ∙ ap (λ (g : Forest). or_some (first (children g)) (beyond k later (first_in xs))) (sym (find-behind k n c kids later (once k) b))
-            ∙ ap (or_some (first (children (find k (node n c kids later))))) (sym (beyond-later k n c kids later (first_in xs) ne (omega (arith, once k))))
-      ]
+pub behind-numbers : (k : ℕ) (f : Forest) (xs : List ℕ) → 0 < count k f → behind k (numbers f ++ xs) ≡ or_some (first (children (find k f))) (beyond k f (first_in xs))
+behind-numbers k empty xs h = absurd (omega arith)
+behind-numbers k (node n c kids later) xs h =
+    elim (same_cases k n) [
+      | inl q ↦ rw q.2 (ap first_in (append_assoc (numbers kids) (numbers later) xs) ∙ first_in-numbers kids (numbers later ++ xs) ∙ ap (or_some (first kids)) (first_in-numbers later xs))
+      | inr q ↦ rw (q.2, append_assoc (numbers kids) (numbers later) xs) (elim (cases_eq (count k kids) 0) [
+        | inl z ↦
+            rw (eq-eqb (count k kids) 0 z, find-none k kids z)
+            (behind-skip k kids (numbers later ++ xs) z ∙ behind-numbers k later xs (omega arith))
+        | inr z ↦
+            rw (ne_eqb (count k kids) 0 z, find-counted k kids (find k later) (omega arith))
+            (behind-numbers k kids (numbers later ++ xs) (omega arith) ∙ ap (λ (o : Option ℕ). or_some (first (children (find k kids))) (beyond k kids o)) (first_in-numbers later xs))
+      ])
     ]
-  where
-    skip_first : (k ≡ n → ⊥) → (rest : List ℕ) → behind k (numbers (node n c kids later) ++ xs) ≡ behind k (numbers kids ++ (numbers later ++ xs))
-    skip_first ne rest = rw (ne_eqb k n ne) (ap (behind k) (append_assoc (numbers kids) (numbers later) xs))
 
 -- beyond a node with a next sibling is that sibling
-beyond-next : (k m : ℕ) (f : Forest) (rest : Option ℕ) → ((j : ℕ) → count j f ≤ 1) → 0 < count k f → first (later_of (find k f)) ≡ Some m → beyond k f rest ≡ Some m
-beyond-next k m empty rest once h s = absurd (omega arith)
-beyond-next k m (node n c kids later) rest once h s =
-    elim (where_is k n c kids later h) [
-      | inl e ↦
-          beyond-same k n c kids later rest e
-          ∙ ap (λ (o : Option ℕ). or_some o rest)
-          (sym (ap (λ (g : Forest). first (later_of g)) (ap (λ (j : ℕ). find j (node n c kids later)) e ∙ find-first n c kids later)) ∙ s)
-      | inr more ↦ elim more [
-        | inl b ↦
-            let ne : k ≡ n → ⊥ = λ e. omega (arith, once k, counted_same k n c kids later e) in
-            beyond-kids k n c kids later rest ne b
-            ∙ beyond-next k m kids (or_some (first later) rest) (λ j. omega (arith, once j)) b (ap (λ (g : Forest). first (later_of g)) (sym (find-below k n c kids later (once k) b)) ∙ s)
-        | inr b ↦
-            let ne : k ≡ n → ⊥ = λ e. omega (arith, once k, counted_same k n c kids later e) in
-            beyond-later k n c kids later rest ne (omega (arith, once k))
-            ∙ beyond-next k m later rest (λ j. omega (arith, once j)) b (ap (λ (g : Forest). first (later_of g)) (sym (find-behind k n c kids later (once k) b)) ∙ s)
-      ]
-    ]
-
-depth_in-none : (k d : ℕ) (f : Forest) → count k f ≡ 0 → depth_in k d f ≡ None
-depth_in-none k d empty h = refl
-depth_in-none k d (node n c kids later) h =
+pub beyond-next : (k m : ℕ) (f : Forest) (rest : Option ℕ) → 0 < count k f → first (later_of (find k f)) ≡ Some m → beyond k f rest ≡ Some m
+beyond-next k m empty rest h s = absurd (omega arith)
+beyond-next k m (node n c kids later) rest h s =
     elim (same_cases k n) [
-      | inl p ↦ absurd (omega arith)
-      | inr p ↦ rw (p.2, depth_in-none k (suc d) kids (omega arith)) (depth_in-none k d later (omega arith))
+      | inl q ↦
+          let next : first later ≡ Some m = rw q.2 at s in
+          beyond-same k n c kids later rest q.0 ∙ ap (λ (o : Option ℕ). or_some o rest) next
+      | inr q ↦ elim (cases_eq (count k kids) 0) [
+        | inl z ↦
+            let next : first (later_of (find k later)) ≡ Some m = rw (q.2, find-none k kids z) at s in
+            beyond-later k n c kids later rest q.0 z ∙ beyond-next k m later rest (omega arith) next
+        | inr z ↦
+            let next : first (later_of (find k kids)) ≡ Some m = rw (q.2, find-counted k kids (find k later) (omega arith)) at s in
+            beyond-kids k n c kids later rest q.0 (omega arith) ∙ beyond-next k m kids (or_some (first later) rest) (omega arith) next
+      ]
     ]
 
 module _ (k n : ℕ) (c : Content) (kids later : Forest) (once : count k (node n c kids later) ≤ 1) where
-  depth_in-first : (d : ℕ) → k ≡ n → depth_in k d (node n c kids later) ≡ Some d
+  pub depth_in-first : (d : ℕ) → k ≡ n → depth_in k d (node n c kids later) ≡ Some d
   depth_in-first d e = rw (eq-eqb k n e) refl
 
   pub depth_in-below : (d e : ℕ) → 0 < count k kids → depth_in k (suc d) kids ≡ Some e → depth_in k d (node n c kids later) ≡ Some e
-  depth_in-below d e b h = rw (ne_eqb k n (λ q. omega (arith, counted_same k n c kids later q)), h) refl
+  depth_in-below d e b h = rw (ne_eqb k n (λ q. omega (arith, same-eq k n q)), h) refl
 
-  depth_in-behind : (d : ℕ) → 0 < count k later → depth_in k d (node n c kids later) ≡ depth_in k d later
-  depth_in-behind d b = rw (ne_eqb k n (λ q. omega (arith, counted_same k n c kids later q)), depth_in-none k (suc d) kids (omega arith)) refl
+  pub depth_in-behind : (d : ℕ) → 0 < count k later → depth_in k d (node n c kids later) ≡ depth_in k d later
+  depth_in-behind d b = rw (ne_eqb k n (λ q. omega (arith, same-eq k n q)), depth_in-none k (suc d) kids (omega arith)) refl
 
 -- beyond a node with no next sibling is what is beyond its parent, which is less deep
-abbrev Climbs : ℕ → ℕ → Forest → Option ℕ → Type 0
+abbrev pub Climbs : ℕ → ℕ → Forest → Option ℕ → Type 0
 Climbs k up f rest =
     (p : ℕ) × (parent_in k up f ≡ Some p)
     × (((p ≡ up) × (beyond k f rest ≡ rest) × ((d : ℕ) → depth_in k d f ≡ Some d))
     ⊎ ((0 < count p f) × (beyond k f rest ≡ beyond p f rest) × ((d : ℕ) → (e : ℕ) × (depth_in p d f ≡ Some e) × (depth_in k d f ≡ Some (suc e)))))
 
-beyond-up : (k up : ℕ) (f : Forest) (rest : Option ℕ) → ((j : ℕ) → count j f ≤ 1) → 0 < count k f → first (later_of (find k f)) ≡ None → Climbs k up f rest
+pub beyond-up : (k up : ℕ) (f : Forest) (rest : Option ℕ) → ((j : ℕ) → count j f ≤ 1) → 0 < count k f → first (later_of (find k f)) ≡ None → Climbs k up f rest
 beyond-up k up empty rest once h s = absurd (omega arith)
 beyond-up k up (node n c kids later) rest once h s =
     elim (where_is k n c kids later h) [
@@ -135,7 +109,7 @@ beyond-up k up (node n c kids later) rest once h s =
       )
       | inr more ↦ elim more [
         | inl b ↦
-            let ne : k ≡ n → ⊥ = λ e. omega (arith, once k, counted_same k n c kids later e) in
+            let ne : k ≡ n → ⊥ = λ e. omega (arith, once k, same-eq k n e) in
             let r = beyond-up k n kids (or_some (first later) rest) (λ j. omega (arith, once j)) b (ap (λ (g : Forest). first (later_of g)) (sym (find-below k n c kids later (once k) b)) ∙ s) in (
               r.0,
               parent_in-below k n c kids later (once k) b up r.0 r.1,
@@ -148,7 +122,7 @@ beyond-up k up (node n c kids later) rest once h s =
                 | inr low ↦ (
                   omega (arith, low.0),
                   beyond-kids k n c kids later rest ne b ∙ low.1
-                      ∙ sym (beyond-kids r.0 n c kids later rest (λ e. omega (arith, once r.0, low.0, counted_same r.0 n c kids later e)) low.0),
+                      ∙ sym (beyond-kids r.0 n c kids later rest (λ e. omega (arith, once r.0, low.0, same-eq r.0 n e)) low.0),
                   λ d. let e = low.2 (suc d) in (
                     e.0,
                     depth_in-below r.0 n c kids later (once r.0) d e.0 low.0 e.1,
@@ -158,7 +132,7 @@ beyond-up k up (node n c kids later) rest once h s =
               ]),
             )
         | inr b ↦
-            let ne : k ≡ n → ⊥ = λ e. omega (arith, once k, counted_same k n c kids later e) in
+            let ne : k ≡ n → ⊥ = λ e. omega (arith, once k, same-eq k n e) in
             let r = beyond-up k up later rest (λ j. omega (arith, once j)) b (ap (λ (g : Forest). first (later_of g)) (sym (find-behind k n c kids later (once k) b)) ∙ s) in (
               r.0,
               parent_in-behind k n c kids later (once k) b up ∙ r.1,
@@ -171,7 +145,7 @@ beyond-up k up (node n c kids later) rest once h s =
                 | inr low ↦ inr (
                   omega (arith, low.0),
                   beyond-later k n c kids later rest ne (omega (arith, once k)) ∙ low.1
-                      ∙ sym (beyond-later r.0 n c kids later rest (λ e. omega (arith, once r.0, low.0, counted_same r.0 n c kids later e)) (omega (arith, once r.0, low.0))),
+                      ∙ sym (beyond-later r.0 n c kids later rest (λ e. omega (arith, once r.0, low.0, same-eq r.0 n e)) (omega (arith, once r.0, low.0))),
                   λ d. let e = low.2 d in (
                     e.0,
                     depth_in-behind r.0 n c kids later (once r.0) d low.0 ∙ e.1,
@@ -185,37 +159,6 @@ beyond-up k up (node n c kids later) rest once h s =
 
 -- ---- a node with all below it
 
--- a node's part of a tree counts no more than the tree
-found_count : (k top : ℕ) (f : Forest) → count k (find top f) ≤ count k f
-found_count k top empty = omega arith
-found_count k top (node n c kids later) =
-    elim (same_cases top n) [
-      | inl p ↦ rw p.2 (omega arith)
-      | inr p ↦ rw p.2 (either (find top kids) (find top later) (found_count k top kids) (found_count k top later))
-    ]
-  where
-    either : (a b : Forest) → count k a ≤ count k kids → count k b ≤ count k later → count k (or_else a b) ≤ count k (node n c kids later)
-    either empty b h i = omega (arith, h, i)
-    either (node m d ks ls) b h i = omega (arith, h, i)
-
--- the node found has the number
-found_number : (top : ℕ) (f : Forest) → ((j : ℕ) → count j f ≤ 1) → 0 < count top f → (c : Content) × (later : Forest) × (find top f ≡ node top c (children (find top f)) later)
-found_number top empty once h = absurd (omega arith)
-found_number top (node n c kids later) once h =
-    elim (where_is top n c kids later h) [
-      | inl e ↦
-          let is : find top (node n c kids later) ≡ node top c kids later = rw (eq-eqb top n e) (ap (λ (j : ℕ). node j c kids later) (sym e)) in
-          (c, later, is ∙ ap (λ (g : Forest). node top c (children g) later) (sym is))
-      | inr more ↦ elim more [
-        | inl b ↦ lifted kids (find-below top n c kids later (once top) b) (found_number top kids (λ j. omega (arith, once j)) b)
-        | inr b ↦ lifted later (find-behind top n c kids later (once top) b) (found_number top later (λ j. omega (arith, once j)) b)
-      ]
-    ]
-  where
-    lifted : (g : Forest) → find top (node n c kids later) ≡ find top g → (d : Content) × (more : Forest) × (find top g ≡ node top d (children (find top g)) more)
-        → (d : Content) × (more : Forest) × (find top (node n c kids later) ≡ node top d (children (find top (node n c kids later))) more)
-    lifted g e r = (r.0, r.1, e ∙ r.2 ∙ ap (λ (x : Forest). node top r.0 (children x) r.1) (sym e))
-
 -- a node before those below it, by itself
 abbrev pub branch : ℕ → Forest → Forest
 branch top kids = node top document kids empty
@@ -227,14 +170,14 @@ module _ (f : Forest) (once : (j : ℕ) → count j f ≤ 1) (top : ℕ) (there 
 
   pub once-branch : (k : ℕ) → count k (branch top kids_of) ≤ 1
   once-branch k =
-      let r = found_number top f once there in
-      omega (arith, found_count k top f, ap (count k) r.2, once k)
+      let r = found top f there in
+      omega (arith, count-find k top f, ap (count k) r.3, ap (λ (g : Forest). count k (children g)) r.3, once k)
 
   pub once-kids : (k : ℕ) → count k kids_of ≤ 1
   once-kids k = omega (arith, once-branch k)
 
   apart-top : (k : ℕ) → 0 < count k kids_of → k ≡ top → ⊥
-  apart-top k h e = omega (arith, once-branch k, counted_same k top document kids_of empty e)
+  apart-top k h e = omega (arith, once-branch k, same-eq k top e)
 
   -- behind a node in this part of the order
   pub behind-branch : (k : ℕ) → 0 < count k (branch top kids_of) →
@@ -242,7 +185,7 @@ module _ (f : Forest) (once : (j : ℕ) → count j f ≤ 1) (top : ℕ) (there 
   behind-branch k h =
       ap (λ (ns : List ℕ). behind k (top ∷ ns)) (sym (append-nil (numbers kids_of)))
       ∙ ap (behind k) (sym (append-nil (numbers (branch top kids_of))))
-      ∙ behind-numbers k (branch top kids_of) [] once-branch h
+      ∙ behind-numbers k (branch top kids_of) [] h
       ∙ ap (λ (o : Option ℕ). or_some o (beyond k (branch top kids_of) None)) same_children
     where
       same_children : first (children (find k (branch top kids_of))) ≡ first (children (find k f))
@@ -272,7 +215,7 @@ module _ (f : Forest) (once : (j : ℕ) → count j f ≤ 1) (top : ℕ) (there 
     -- beyond another one with a next sibling
     pub beyond-branch-next : (m : ℕ) → first (later_of (find k f)) ≡ Some m → beyond k (branch top kids_of) None ≡ Some m
     beyond-branch-next m s =
-        to_kids ∙ beyond-next k m kids_of None once-kids below (ap (λ (g : Forest). first (later_of g)) (sym (inside k top f once below).1) ∙ s)
+        to_kids ∙ beyond-next k m kids_of None below (ap (λ (g : Forest). first (later_of g)) (sym (inside k top f once below).1) ∙ s)
 
     -- and beyond one without
     pub beyond-branch-up : first (later_of (find k f)) ≡ None → (up : ℕ) →
@@ -286,7 +229,7 @@ module _ (f : Forest) (once : (j : ℕ) → count j f ≤ 1) (top : ℕ) (there 
           | inl at ↦ (
             r.0,
             i.2 up ∙ r.1,
-            omega (arith, counted_same r.0 top document kids_of empty at.0),
+            omega (arith, same-eq r.0 top at.0),
             to_kids ∙ at.1 ∙ sym (beyond-top r.0 at.0),
             0,
             depth_in-first r.0 top document kids_of empty (once-branch r.0) 0 at.0,

@@ -7,11 +7,10 @@ use Rattle.std.proofs.lemmas.Bool.{cases_eq, eq-eqb, ne_eqb, cases_Bool, cond_bo
 use Rattle.std.proofs.lemmas.List.Folds.{find-append}
 use Rattle.std.proofs.lemmas.List.{map-append, append-nil}
 use Rattle.std.proofs.lemmas.List.Elements.{filter-append}
-use Rattle.page_tree.specs.Forest.{Content, document, element, text, comment, Forest, empty, node, Tree, rooted, count, numbers, find, or_else, children, later_of, content, name_of, attrs_of, value_at}
+use Rattle.page_tree.specs.Forest.{Content, document, element, text, comment, Forest, empty, node, Tree, rooted, count, numbers, find, or_else, children, later_of, content, name_of, attrs_of}
 use Rattle.page_tree.specs.Standings.{Sibling, Standing, siblings_of, standings, elements, standing, all, name, attrs, inner, after}
-use Rattle.page_tree.specs.Facts.{attr}
 use Rattle.page_tree.specs.Directions.{is_in}
-use Rattle.page_tree.specs.Trees.{IsOrdinary, AreOrdinary, MayHave, IsGrown, IsTree}
+use Rattle.page_tree.specs.Trees.{Every, IsOrdinary, AreOrdinary, MayHave, IsGrown, IsTree}
 use Rattle.page_tree.proofs.Members.{is_in-filter, filter-alike}
 use Rattle.page_tree.proofs.Finding.{same_cases, or_else-empty, find-none, find-first, find-below, find-behind, find-rooted, numbers-counted, numbers-none}
 
@@ -31,8 +30,7 @@ HasRoom (text bytes) kids = kids ≡ empty
 HasRoom (comment bytes) kids = kids ≡ empty
 
 abbrev pub HaveRoom : Forest → Type 0
-HaveRoom empty = Unit {0}
-HaveRoom (node n c kids later) = HasRoom c kids × HaveRoom kids × HaveRoom later
+HaveRoom = Every HasRoom
 
 has_room : (c : Content) (kids : Forest) → MayHave c kids → IsOrdinary c → HasRoom c kids
 has_room document kids m o = absurd o
@@ -69,7 +67,7 @@ seen_of e = record { number = e.number; name = e.name; attrs = e.attrs; after = 
 abbrev pub chosen : ℕ → List Standing → Option Standing
 chosen k = find_item (λ e. e.number == k)
 
-pub option_or-none : (o : Option Standing) → option_or o None ≡ o
+pub option_or-none : {A : Type 0} (o : Option A) → option_or o None ≡ o
 option_or-none None = refl
 option_or-none (Some e) = refl
 
@@ -225,21 +223,6 @@ seen-after (node n (element called given) kids later) h = refl
 seen-after (node n (text bytes) kids later) h = absurd (both_ways false refl h)
 seen-after (node n (comment bytes) kids later) h = absurd (both_ways false refl h)
 
-seen-none : (f : Forest) → is_element (content f) ≡ false → seen_at f ≡ None
-seen-none empty h = refl
-seen-none (node n document kids later) h = refl
-seen-none (node n (element called given) kids later) h = absurd (both_ways true h refl)
-seen-none (node n (text bytes) kids later) h = refl
-seen-none (node n (comment bytes) kids later) h = refl
-
-none-only : (o : Option Standing) → option_map seen_of o ≡ None → o ≡ None
-none-only None h = refl
-none-only (Some e) h = cc
-
-some-only : (o : Option Standing) (s : Seen) → option_map seen_of o ≡ Some s → (e : Standing) × (o ≡ Some e) × (seen_of e ≡ s)
-some-only None s h = cc
-some-only (Some e) s h = (e, refl, cc)
-
 -- a tree whose numbers are distinct, and in which only elements have nodes below them
 module _ (t : Tree) (once : (k : ℕ) → count k t.nodes ≤ 1) (room : HaveRoom t.nodes) where
   -- the elements in document order are the numbers in document order whose node is an element
@@ -261,16 +244,6 @@ module _ (t : Tree) (once : (k : ℕ) → count k t.nodes ≤ 1) (room : HaveRoo
   pub standing-find : (k : ℕ) → option_map seen_of (standing t k) ≡ seen_at (find k t.nodes)
   unfolding elements standing
   standing-find k = seen k t.nodes [] [] room (once k)
-
-  -- nothing stands around what is no element
-  pub standing-none : (k : ℕ) → stands_as_element t.nodes k ≡ false → standing t k ≡ None
-  standing-none k h = none-only (standing t k) (standing-find k ∙ seen-none (find k t.nodes) h)
-
-  -- around an element there is something
-  pub standing-some : (k n : ℕ) (called : List ℕ) (given : List (List ℕ × List ℕ)) (kids later : Forest) → find k t.nodes ≡ node n (element called given) kids later
-      → (e : Standing) × (standing t k ≡ Some e) × (seen_of e ≡ record { number = n; name = called; attrs = given; after = siblings_of later; inner = kids })
-  standing-some k n called given kids later h =
-      some-only (standing t k) (record { number = n; name = called; attrs = given; after = siblings_of later; inner = kids }) (standing-find k ∙ ap seen_at h)
 
   -- the name is that of its node; what is no element has none
   pub name-find : (k : ℕ) → name t k ≡ unwrap_or (option_map name_of (content (find k t.nodes))) []
@@ -333,9 +306,6 @@ module _ (t : Tree) (tree : IsTree t) where
   pub is_in-all-rooted : (k : ℕ) → is_in (all t) k ≡ stands_as_element (rooted t.nodes) k
   is_in-all-rooted k = is_in-all t (once-tree t tree) (room-tree t tree) k ∙ sym (element-rooted t tree k)
 
-  pub standing-rooted : (k : ℕ) → option_map seen_of (standing t k) ≡ seen_at (find k (rooted t.nodes))
-  standing-rooted k = standing-find t (once-tree t tree) (room-tree t tree) k ∙ sym (seen-rooted t tree k)
-
   pub name-rooted : (k : ℕ) → name t k ≡ unwrap_or (option_map name_of (content (find k (rooted t.nodes)))) []
   name-rooted k =
       name-find t (once-tree t tree) (room-tree t tree) k ∙ sym (seen-name (find k t.nodes))
@@ -349,8 +319,3 @@ module _ (t : Tree) (tree : IsTree t) where
   -- what is below a node other than the document
   pub inner-rooted : (k : ℕ) → (k ≡ 0 → ⊥) → inner t k ≡ children (find k (rooted t.nodes))
   inner-rooted k h = inner-find t (once-tree t tree) (room-tree t tree) k ∙ ap children (sym (find-rooted k t.nodes h))
-
-  -- an attribute of an element is that of its node
-  pub attr-rooted : (k : ℕ) (called : List ℕ) (given : List (List ℕ × List ℕ)) → content (find k (rooted t.nodes)) ≡ Some (element called given) →
-      (key : List ℕ) → attr t key k ≡ value_at key given
-  attr-rooted k called given h key = ap (value_at key) (attrs-rooted k ∙ ap (λ (c : Option Content). unwrap_or (option_map attrs_of c) []) h)

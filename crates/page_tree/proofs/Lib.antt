@@ -1,8 +1,16 @@
 pub mod Members
 pub mod Finding
+pub mod Totals
+pub mod Depths
+pub mod Cuts
+pub mod Keeps
+pub mod Fragments
 pub mod Elements
 pub mod Around
 pub mod Parts
 pub mod Below
+pub mod Regrafts
+pub mod Behind
+pub mod Found
 pub mod Walk
 pub mod Sides

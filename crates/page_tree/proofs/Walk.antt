@@ -1,7 +1,7 @@
 -- A walk over numbers that stand once, each from the one before it.
 use Rattle.std.proofs.Common.{◌≡◌, ◌+◌, ◌<◌, ◌≤◌, ◌++◌, ℕ, cond, eqb, List, [], ◌∷◌, length, Option, Some, None, arith, refl, sym, ap, ◌∙◌, inl, inr}
 use Rattle.page_tree.specs.Forest.{Forest, empty, node, same, count, numbers, first_in, behind}
-use Rattle.page_tree.proofs.Finding.{same_cases}
+use Rattle.page_tree.proofs.Finding.{same_cases, same-same}
 
 -- how often a number stands in a list
 abbrev pub times : ℕ → List ℕ → ℕ
@@ -21,9 +21,6 @@ left_at (Some k) ns = tail k ns
 abbrev pub rest_of : List ℕ → List ℕ
 rest_of [] = []
 rest_of (n ∷ ns) = ns
-
-same-same : (n : ℕ) → same n n ≡ 1
-same-same n = elim (same_cases n n) [ inl p ↦ p.1 | inr p ↦ absurd (p.0 refl) ]
 
 times-append : (k : ℕ) (ms ns : List ℕ) → times k (ms ++ ns) ≡ times k ms + times k ns
 times-append k [] ns = omega arith
@@ -80,10 +77,6 @@ left_at-behind k (n ∷ ns) once =
           | inl p ↦ absurd (omega (arith, found m ns e, once m, p.1))
           | inr p ↦ rw p.2 refl
         ]
-
--- the walk begins at the first number
-pub there_at_first : (n k : ℕ) (ns : List ℕ) → Some n ≡ Some k → 0 < times k (n ∷ ns)
-there_at_first n k ns e = let is : n ≡ k = cc (e) in elim (same_cases k n) [ inl p ↦ omega (arith, p.1) | inr p ↦ absurd (p.0 (sym is)) ]
 
 -- one step of the walk from k
 module _ (ns : List ℕ) (once : (m : ℕ) → times m ns ≤ 1) (at next : Option ℕ) (k : ℕ) (here : at ≡ Some k) (there : (m : ℕ) → at ≡ Some m → 0 < times m ns) (on : next ≡ behind k ns) where

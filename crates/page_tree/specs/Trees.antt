@@ -20,9 +20,13 @@ IsOrdinary (element name attrs) = IsLowerCase name × AreAttributes attrs
 IsOrdinary (text bytes) = Unit {0}
 IsOrdinary (comment bytes) = Unit {0}
 
+-- each node fits, by what it is and its children
+abbrev pub Every : (Content → Forest → Type 0) → Forest → Type 0
+Every Fits empty = Unit {0}
+Every Fits (node n c kids later) = Fits c kids × Every Fits kids × Every Fits later
+
 abbrev pub AreOrdinary : Forest → Type 0
-AreOrdinary empty = Unit {0}
-AreOrdinary (node n c kids later) = IsOrdinary c × AreOrdinary kids × AreOrdinary later
+AreOrdinary = Every (λ c kids. IsOrdinary c)
 
 -- only the document and elements have children
 abbrev pub MayHave : Content → Forest → Type 0
@@ -32,8 +36,7 @@ MayHave (text bytes) kids = kids ≡ empty
 MayHave (comment bytes) kids = kids ≡ empty
 
 abbrev pub IsGrown : Forest → Type 0
-IsGrown empty = Unit {0}
-IsGrown (node n c kids later) = MayHave c kids × IsGrown kids × IsGrown later
+IsGrown = Every MayHave
 
 -- Each number stands once, and below `next`; only elements have children; names are kept in lower case, and those of
 -- attributes are distinct; the limits are kept. Being below the document, each node is reached from it.
