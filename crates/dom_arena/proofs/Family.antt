@@ -2,6 +2,7 @@
 use Rattle.std.proofs.Common.{◌≡◌, ℕ, ◌<◌, ◌≤◌, List, length, sym, ◌∙◌, inl, inr, arith}
 use Rattle.std.proofs.lemmas.Bool.{cases_lt}
 use Rattle.page_tree.specs.Forest.{Forest, empty, node, rooted, count, head, find, children}
+use Rattle.page_tree.specs.Trees.{IsTree}
 use Rattle.dom_arena.specs.declared.table.Slot.{Slot}
 use Rattle.dom_arena.specs.Slots.{slot_at, IsUsed, last}
 use Rattle.dom_arena.specs.Linked.{Linked, Stands, from_place, before_place}
@@ -18,30 +19,29 @@ pub record Family (slots : List Slot) (p : ℕ) (kids : Forest) : Type 0 where
   pub no_parent : count p kids ≡ 0
   pub present : p < length slots
 
-module _ (slots : List Slot) (f : Forest) (stands : Stands slots f) where
+module _ (slots : List Slot) (f : Forest) (linked : Linked (slot_at slots) 0 0 (rooted f)) (tree : IsTree (record { nodes = f; next = length slots })) where
   -- a number in the forest is below the number of slots
   pub inside_slots : (k : ℕ) → 0 < count k (rooted f) → k < length slots
   inside_slots k h =
       elim (cases_lt k (length slots)) [
         | inl lt ↦ lt
-        | inr le ↦ absurd (omega (arith, stands.tree.below k le))
+        | inr le ↦ absurd (omega (arith, tree.below k le))
       ]
 
   -- what the slots of a node say of its children
-  pub family : (p : ℕ) → IsUsed slots p → Family slots p (children (find p (rooted f)))
-  family p used =
-      let inside : 0 < count p (rooted f) = stands_used slots f stands p used in
+  pub family_of : (p : ℕ) → 0 < count p (rooted f) → Family slots p (children (find p (rooted f)))
+  family_of p inside =
       let kids_count : (k : ℕ) → count k (children (find p (rooted f))) ≤ count k (rooted f) =
       λ k. omega (arith, count-find k p (rooted f), count-parts k (find p (rooted f))) in
-      let cell_at : IsCell (slot_at slots) p (find p (rooted f)) = IsCell-find (slot_at slots) p (rooted f) 0 0 stands.linked inside in
+      let cell_at : IsCell (slot_at slots) p (find p (rooted f)) = IsCell-find (slot_at slots) p (rooted f) 0 0 linked inside in
       record {
         linked = of_cell_linked (find p (rooted f)) cell_at;
         first = of_cell_first (find p (rooted f)) cell_at;
         last = of_cell_last (find p (rooted f)) cell_at;
-        no_zero = (no_zero p f (stands.tree.once 0)).0;
-        once = λ k. omega (arith, kids_count k, stands.tree.once k);
+        no_zero = (no_zero p f (tree.once 0)).0;
+        once = λ k. omega (arith, kids_count k, tree.once k);
         inside = λ k h. inside_slots k (omega (arith, kids_count k));
-        no_parent = of_cell_count (find p (rooted f)) cell_at (omega (arith, count-find p p (rooted f), stands.tree.once p));
+        no_parent = of_cell_count (find p (rooted f)) cell_at (omega (arith, count-find p p (rooted f), tree.once p));
         present = inside_slots p inside;
       }
     where
@@ -60,6 +60,11 @@ module _ (slots : List Slot) (f : Forest) (stands : Stands slots f) where
       of_cell_count : (g : Forest) → IsCell (slot_at slots) p g → count p g ≤ 1 → count p (children g) ≡ 0
       of_cell_count empty c h = absurd c
       of_cell_count (node n c kids later) h le = omega (arith, same-eq p n h.0)
+
+module _ (slots : List Slot) (f : Forest) (stands : Stands slots f) where
+  -- the same of slots that stand for a forest
+  pub family : (p : ℕ) → IsUsed slots p → Family slots p (children (find p (rooted f)))
+  family p used = family_of slots f stands.linked stands.tree p (stands_used slots f stands p used)
 
   -- what was found at a node, as its slot says
   pub found_node : (p : ℕ) → IsUsed slots p → IsCell (slot_at slots) p (find p (rooted f))

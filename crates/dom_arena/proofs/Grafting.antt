@@ -13,7 +13,7 @@ use Rattle.dom_arena.specs.Contents.{may_hold, new_content, new_nodes}
 use Rattle.dom_arena.specs.Hanging.{CanHang, parent_behind, hung_in, tail_behind}
 use Rattle.dom_arena.specs.Slots.{free, slot_at, IsUsed}
 use Rattle.dom_arena.specs.Linked.{Stands, IsArena, tree_of, before_place, from_place}
-use Rattle.dom_arena.specs.Refusals.{part_refused}
+use Rattle.page_tree.specs.Refusals.{limits_refused}
 use Rattle.dom_arena.proofs.Links.{same_cases, find-none, or_else-empty}
 use Rattle.dom_arena.proofs.Grafts.{with_children-none, size-joined}
 use Rattle.dom_arena.proofs.Writes.{slot_at-free, length-free, Stands-free}
@@ -69,7 +69,7 @@ length-new_nodes xs = length-map xs (λ (y : ℕ × NewNode). (y.0, new_content 
 
 -- the slots before the first node
 pub begun : (slots : List Slot) (nodes p place base b n m : ℕ) (xs ys : List (ℕ × NewNode)) (made : List Slot) → IsArena slots nodes → IsUsed slots p → may_hold (slot_at slots p).payload ≡ true
-    → IsFragment (new_nodes xs) → depth_in p 0 (rooted (tree_of slots).nodes) ≡ Some base → part_refused (depth_in p 0 (rooted (tree_of slots).nodes)) nodes (new_nodes xs) ≡ None
+    → IsFragment (new_nodes xs) → depth_in p 0 (rooted (tree_of slots).nodes) ≡ Some base → limits_refused (depth_in p 0 (rooted (tree_of slots).nodes)) nodes (new_nodes xs) ≡ None
     → b ≡ before_place 0 place (children (find p (rooted (tree_of slots).nodes)))
     → n ≡ length slots → m ≡ length xs → ys ≡ xs → made ≡ slots ++ replicate m free
     → Grafting (tree_of slots).nodes p place base (length slots + length (new_nodes xs)) (nodes + length (new_nodes xs)) (fragment_nodes (length slots) (new_nodes xs)) made empty n
@@ -78,7 +78,7 @@ begun slots nodes p place base b n m xs ys made arena used holds fragment deep a
     let f : Forest = (tree_of slots).nodes in
     let part : List (ℕ × Content) = new_nodes xs in
     let same_nodes : nodes_with f p place empty ≡ f = nodes_with-empty f p place (arena.stands.tree.once p) in
-    let refused : part_refused (Some base) nodes part ≡ None = ap (λ (o : Option ℕ). part_refused o nodes part) (sym deep) ∙ allowed in
+    let refused : limits_refused (Some base) nodes part ≡ None = ap (λ (o : Option ℕ). limits_refused o nodes part) (sym deep) ∙ allowed in
     let same_part : part ≡ new_nodes ys = ap new_nodes (sym ey) in
     let size_ys : length (new_nodes ys) ≡ length part = ap (λ (l : List (ℕ × NewNode)). length (new_nodes l)) ey in
     record {

@@ -10,14 +10,14 @@ use Rattle.dom_arena.specs.declared.fragments.Tail.{Tail}
 use Rattle.dom_arena.specs.declared.table.Slot.{Slot}
 use Rattle.dom_arena.specs.Contents.{payload_of, may_hold}
 use Rattle.dom_arena.specs.Hanging.{CanHang, parent_behind, sibling_before, sibling_after, hung_in, tail_behind}
-use Rattle.dom_arena.specs.Slots.{slot_at, IsUsed, last_behind, climbed, put}
+use Rattle.dom_arena.specs.Slots.{slot_at, IsUsed, last_behind, cell, climbed, put}
 use Rattle.dom_arena.specs.Linked.{Linked, Stands, from_place, before_place}
 use Rattle.dom_arena.proofs.Links.{same_cases, count-find, count-parts, stands_used}
 use Rattle.dom_arena.proofs.Siblings.{same-eq}
 use Rattle.dom_arena.proofs.Grafts.{count-with_children, count-insert}
 use Rattle.dom_arena.proofs.Family.{Family, family, before_used, after_used}
 use Rattle.dom_arena.proofs.Depths.{depth_up}
-use Rattle.dom_arena.proofs.Writes.{payload-put, length-put}
+use Rattle.dom_arena.proofs.Writes.{payload-put, length-placed}
 use Rattle.dom_arena.proofs.Added.{Stands-put, total, size_nodes, before_place-end, from_place-end}
 use Rattle.dom_arena.proofs.Regrafts.{with_children-again, children-given, find-given, with_children-given, depth_in-given, children-inserted, with_children-inserted, insert-behind, before-behind, from-behind, tops-inserted, insert-end}
 use Rattle.dom_arena.proofs.Ways.{OnWay, way_at, Under, Under-linked, Under-insert, OnWay-less, way_counts, way_parent, way_holds, climbed-way, hangs, OnWay-hung, way_at-hung, OnWay-more, way_at-more, last_top-joined, last_top-hung}
@@ -264,7 +264,7 @@ module _ (slots0 : List Slot) (f : Forest) (stands0 : Stands slots0 f) (p place 
           stands = subst (λ (k : ℕ). Stands (put n k b a c slots) (now (hung d new g))) (sym parent_now) (subst (λ (t : Forest). Stands (put n q b a c slots) t) at.grown written);
           holds = ap may_hold (payload-put n (parent_behind tail d slots) b a p c slots p_is_old) ∙ here.holds;
           unused = λ k le. ap (λ (t : Forest). count k (rooted t)) (sym at.grown) ∙ counts' k ∙ none_there k le;
-          long = length-put n (parent_behind tail d slots) b a c slots ∙ here.long;
+          long = length-placed n (parent_behind tail d slots) b a (cell (parent_behind tail d slots) empty a b c) slots ∙ here.long;
           counted = omega (arith, more, here.counted);
           inside = omega (arith, here.inside);
           way = way_behind (may_hold (payload_of c)) d n c g refl way;

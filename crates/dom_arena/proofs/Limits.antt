@@ -1,10 +1,12 @@
 -- The limits that the nodes of a fragment keep, one after the other.
-use Rattle.std.proofs.Common.{◌≡◌, ℕ, suc, ◌+◌, ◌-◌, ◌<◌, ◌≤◌, List, ◌∷◌, Option, Some, None, refl, sym, ◌∙◌, ap, inl, inr, arith}
+use Rattle.std.proofs.Common.{◌≡◌, ℕ, suc, ◌+◌, ◌-◌, ◌<◌, ◌≤◌, List, [], ◌∷◌, Option, Some, None, refl, sym, ◌∙◌, ap, inl, inr, arith}
 use Rattle.std.proofs.lemmas.Bool.{cases_lt, le-ltb, lt-ltb, lt-leb, le-leb}
 use Rattle.std.specs.Prelude.{option_map}
 use Rattle.page_tree.specs.Forest.{Content}
 use Rattle.page_tree.specs.Fragments.{Limit, limit_passed}
-use Rattle.dom_arena.specs.Refusals.{dom_error, part_refused}
+use Rattle.page_tree.specs.Refusals.{past_limit, limits_refused}
+use Rattle.dom_arena.specs.declared.refusals.DomError.TheVariants.{TooDeep, TooManyNodes}
+use Rattle.dom_arena.specs.Refusals.{error_of}
 
 -- a node that keeps both leaves it to the others
 pub limits_step : (depth live : ℕ) (x : ℕ × Content) (part : List (ℕ × Content)) → depth + suc x.0 ≤ 512 → live < 1000000 → limit_passed depth live (x ∷ part) ≡ limit_passed depth (suc live) part
@@ -24,13 +26,34 @@ limits_kept depth live x part h =
 
 -- the refusal goes on with the others
 pub part_step : (o : Option ℕ) (depth live : ℕ) (x : ℕ × Content) (part : List (ℕ × Content)) → o ≡ Some depth → x.0 < 512 - depth → live < 1000000
-    → part_refused o live (x ∷ part) ≡ part_refused o (suc live) part
+    → limits_refused o live (x ∷ part) ≡ limits_refused o (suc live) part
 part_step o depth live x part e room few = rw e (rw (limits_step depth live x part (omega arith) few) refl)
 
 -- where nothing is refused no limit is passed
-pub none_passed : (depth live : ℕ) (part : List (ℕ × Content)) → part_refused (Some depth) live part ≡ None → limit_passed depth live part ≡ None
+pub none_passed : (depth live : ℕ) (part : List (ℕ × Content)) → limits_refused (Some depth) live part ≡ None → limit_passed depth live part ≡ None
 none_passed depth live part h = by_case (limit_passed depth live part) refl
   where
     by_case : (o : Option Limit) → limit_passed depth live part ≡ o → o ≡ None
     by_case None e = refl
-    by_case (Some limit) e = let bad : option_map dom_error (Some limit) ≡ None = ap (option_map dom_error) (sym e) ∙ h in cc
+    by_case (Some limit) e = let bad : option_map past_limit (Some limit) ≡ None = ap (option_map past_limit) (sym e) ∙ h in cc
+
+-- ---- one node more
+
+module _ (o : Option ℕ) (depth nodes : ℕ) (e : o ≡ Some depth) (c : Content) where
+  -- too deep
+  pub one_too_deep : 512 ≤ depth → option_map error_of (limits_refused o nodes ((0, c) ∷ [])) ≡ Some TooDeep
+  one_too_deep h = rw e (rw (lt-ltb 512 (depth + 1) (omega arith)) refl)
+
+  -- one too many
+  pub one_too_many : depth < 512 → 1000000 ≤ nodes → option_map error_of (limits_refused o nodes ((0, c) ∷ [])) ≡ Some TooManyNodes
+  one_too_many deep h = rw e (rw (le-ltb 512 (depth + 1) (omega arith), le-leb 1000000 nodes h) refl)
+
+  -- or neither
+  pub one_allowed : depth < 512 → nodes < 1000000 → limits_refused o nodes ((0, c) ∷ []) ≡ None
+  one_allowed deep few = rw e (rw (le-ltb 512 (depth + 1) (omega arith), lt-leb 1000000 nodes few) refl)
+
+-- what is allowed then
+pub limits_allow : (depth nodes : ℕ) (c : Content) → limits_refused (Some depth) nodes ((0, c) ∷ []) ≡ None → (depth < 512) × (nodes < 1000000)
+limits_allow depth nodes c h =
+    let kept = limits_kept depth nodes (0, c) [] (none_passed depth nodes ((0, c) ∷ []) h) in
+    (omega (arith, kept.0), kept.1)

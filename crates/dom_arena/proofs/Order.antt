@@ -3,77 +3,15 @@ use Rattle.std.proofs.Common.{◌≡◌, ℕ, ◌<◌, ◌≤◌, cond, eqb, Lis
 use Rattle.std.proofs.lemmas.Bool.{cases_eq, eq-eqb, ne_eqb}
 use Rattle.std.proofs.lemmas.List.{append-nil}
 use Rattle.page_tree.specs.Forest.{Content, document, Forest, empty, node, rooted, count, numbers, head, first, or_else, find, children, or_some, first_in, behind}
+use Rattle.page_tree.specs.Edits.{behind_subtree}
 use Rattle.dom_arena.specs.declared.table.Slot.{Slot}
 use Rattle.dom_arena.specs.Slots.{slot_at, IsUsed, number_of}
 use Rattle.dom_arena.specs.Linked.{Linked, Stands}
 use Rattle.dom_arena.proofs.Links.{same_cases, find-none, stands_used, first_child_found}
 use Rattle.dom_arena.proofs.Siblings.{same-eq}
+use Rattle.page_tree.proofs.Below.{beyond, beyond-same, beyond-kids, beyond-later, behind-skip, behind-numbers}
+use Rattle.page_tree.proofs.Behind.{behind_subtree-beyond}
 use Rattle.dom_arena.proofs.Family.{counted_used}
-
--- the number behind a node and all below it in document order, where `rest` follows the forest
-abbrev pub beyond : ℕ → Forest → Option ℕ → Option ℕ
-beyond k empty rest = None
-beyond k (node n c kids later) rest =
-    cond (eqb k n) (or_some (first later) rest)
-    (cond (eqb (count k kids) 0) (beyond k later rest) (beyond k kids (or_some (first later) rest)))
-
--- beyond the first node
-beyond-same : (k n : ℕ) (c : Content) (kids later : Forest) (rest : Option ℕ) → k ≡ n → beyond k (node n c kids later) rest ≡ or_some (first later) rest
-beyond-same k n c kids later rest e = rw (eq-eqb k n e) refl
-
--- beyond a node below the first one
-beyond-kids : (k n : ℕ) (c : Content) (kids later : Forest) (rest : Option ℕ) → (k ≡ n → ⊥) → 0 < count k kids → beyond k (node n c kids later) rest ≡ beyond k kids (or_some (first later) rest)
-beyond-kids k n c kids later rest ne h = rw (ne_eqb k n ne, ne_eqb (count k kids) 0 (λ e. omega arith)) refl
-
--- beyond a node behind the first one
-beyond-later : (k n : ℕ) (c : Content) (kids later : Forest) (rest : Option ℕ) → (k ≡ n → ⊥) → count k kids ≡ 0 → beyond k (node n c kids later) rest ≡ beyond k later rest
-beyond-later k n c kids later rest ne z = rw (ne_eqb k n ne, eq-eqb (count k kids) 0 z) refl
-
--- the first number of a forest before others
-first_in-numbers : (f : Forest) (xs : List ℕ) → first_in (numbers f ++ xs) ≡ or_some (first f) (first_in xs)
-first_in-numbers empty xs = refl
-first_in-numbers (node n c kids later) xs = refl
-
--- a node that is not in a forest is looked for behind it
-behind-skip : (k : ℕ) (f : Forest) (xs : List ℕ) → count k f ≡ 0 → behind k (numbers f ++ xs) ≡ behind k xs
-behind-skip k empty xs z = refl
-behind-skip k (node n c kids later) xs z =
-    elim (same_cases k n) [
-      | inl q ↦ absurd (omega arith)
-      | inr q ↦ rw (q.2, append_assoc (numbers kids) (numbers later) xs) (behind-skip k kids (numbers later ++ xs) (omega arith) ∙ behind-skip k later xs (omega arith))
-    ]
-
--- a node that was found is not looked for further on
-find-counted : (k : ℕ) (f g : Forest) → 0 < count k f → or_else (find k f) g ≡ find k f
-find-counted k empty g h = absurd (omega arith)
-find-counted k (node n c kids later) g h =
-    elim (same_cases k n) [
-      | inl q ↦ rw q.2 refl
-      | inr q ↦ rw q.2 (elim (cases_eq (count k kids) 0) [
-        | inl z ↦ either (find k kids) (find k later) (find-counted k later g (omega arith))
-        | inr z ↦ ap (λ (x : Forest). or_else x g) (find-counted k kids (find k later) (omega arith)) ∙ find-counted k kids g (omega arith) ∙ sym (find-counted k kids (find k later) (omega arith))
-      ])
-    ]
-  where
-    either : (x y : Forest) → or_else y g ≡ y → or_else (or_else x y) g ≡ or_else x y
-    either empty y e = e
-    either (node m d ks ls) y e = refl
-
--- the number behind a node is its first child's, or else the one beyond it
-behind-numbers : (k : ℕ) (f : Forest) (xs : List ℕ) → 0 < count k f → behind k (numbers f ++ xs) ≡ or_some (first (children (find k f))) (beyond k f (first_in xs))
-behind-numbers k empty xs h = absurd (omega arith)
-behind-numbers k (node n c kids later) xs h =
-    elim (same_cases k n) [
-      | inl q ↦ rw q.2 (ap first_in (append_assoc (numbers kids) (numbers later) xs) ∙ first_in-numbers kids (numbers later ++ xs) ∙ ap (or_some (first kids)) (first_in-numbers later xs))
-      | inr q ↦ rw (q.2, append_assoc (numbers kids) (numbers later) xs) (elim (cases_eq (count k kids) 0) [
-        | inl z ↦
-            rw (eq-eqb (count k kids) 0 z, find-none k kids z)
-            (behind-skip k kids (numbers later ++ xs) z ∙ behind-numbers k later xs (omega arith))
-        | inr z ↦
-            rw (ne_eqb (count k kids) 0 z, find-counted k kids (find k later) (omega arith))
-            (behind-numbers k kids (numbers later ++ xs) (omega arith) ∙ ap (λ (o : Option ℕ). or_some (first (children (find k kids))) (beyond k kids o)) (first_in-numbers later xs))
-      ])
-    ]
 
 -- beyond a node with a next sibling is that sibling
 pub beyond-next : (s : ℕ → Slot) (k : ℕ) (f : Forest) (p b : ℕ) (rest : Option ℕ) → Linked s p b f → 0 < count k f → ((s k).next ≡ 0 → ⊥) → beyond k f rest ≡ Some (s k).next
@@ -171,6 +109,10 @@ module _ (slots : List Slot) (f : Forest) (stands : Stands slots f) where
   pub behind_leaf : (k : ℕ) → IsUsed slots k → (slot_at slots k).first_child ≡ 0 → behind k (numbers (rooted f)) ≡ beyond k (rooted f) None
   behind_leaf k used z =
       behind_node k used ∙ ap (λ b. or_some (cond b None (Some (slot_at slots k).first_child)) (beyond k (rooted f) None)) (eq-eqb (slot_at slots k).first_child 0 z)
+
+  -- behind a node and all below it is what is beyond it
+  pub behind_whole : (k : ℕ) → IsUsed slots k → behind_subtree k (rooted f) ≡ beyond k (rooted f) None
+  behind_whole k used = behind_subtree-beyond k (rooted f) (omega (arith, stands_used slots f stands k used, stands.tree.once k))
 
   -- the way up ends at the document
   pub behind_end : (k : ℕ) → k ≡ 0 → beyond k (rooted f) None ≡ None

@@ -2,7 +2,7 @@
 use Rattle.std.proofs.Common.{ℕ, zero, suc, inl, inr}
 use Rattle.page_tree.specs.Forest.{Forest, empty, node, rooted, find, or_else, children}
 use Rattle.page_tree.specs.Edits.{joined, insert_at, with_children}
-use Rattle.page_tree.specs.Trees.{AreOrdinary}
+use Rattle.page_tree.specs.Trees.{IsGrown, AreOrdinary}
 use Rattle.dom_arena.proofs.Links.{same_cases, or_else-empty}
 
 -- names are kept in joined forests
@@ -58,4 +58,31 @@ ordinary_below p f h =
     elim (same_cases p 0) [
       | inl q ↦ rw q.2 h
       | inr q ↦ rw (q.2, or_else-empty (find p f)) (AreOrdinary-children (find p f) (AreOrdinary-find p f h))
+    ]
+
+-- ---- only elements have children
+
+or_grown : (f g : Forest) → IsGrown f → IsGrown g → IsGrown (or_else f g)
+or_grown empty g a b = b
+or_grown (node n c kids later) g a b = a
+
+-- in what was found too
+pub IsGrown-find : (k : ℕ) (f : Forest) → IsGrown f → IsGrown (find k f)
+IsGrown-find k empty h = tt
+IsGrown-find k (node n c kids later) h =
+    elim (same_cases k n) [
+      | inl q ↦ rw q.2 h
+      | inr q ↦ rw q.2 (or_grown (find k kids) (find k later) (IsGrown-find k kids h.1) (IsGrown-find k later h.2))
+    ]
+
+IsGrown-children : (f : Forest) → IsGrown f → IsGrown (children f)
+IsGrown-children empty h = tt
+IsGrown-children (node n c kids later) h = h.1
+
+-- and below a node, the document among them
+pub grown_below : (p : ℕ) (f : Forest) → IsGrown f → IsGrown (children (find p (rooted f)))
+grown_below p f h =
+    elim (same_cases p 0) [
+      | inl q ↦ rw q.2 h
+      | inr q ↦ rw (q.2, or_else-empty (find p f)) (IsGrown-children (find p f) (IsGrown-find p f h))
     ]

@@ -2,14 +2,14 @@
 use Rattle.std.proofs.Common.{◌≡◌, ℕ, true, false, List, length, refl, sym, ◌∙◌, ap, subst, inl, inr, arith, length-set}
 use Rattle.std.specs.Prelude.{unwrap_or}
 use Rattle.page_tree.specs.Forest.{Content, document, element, text, comment, Forest, empty, node, Tree, rooted, count, size, height, head, find, content, name_of, attrs_of}
-use Rattle.page_tree.specs.Edits.{with_content, rewritten, with_attr, without_attr}
+use Rattle.page_tree.specs.Edits.{with_content, rewritten, with_attr, without_attr, content_at, with_attr_set, with_attr_dropped, with_text}
 use Rattle.page_tree.specs.Trees.{MayHave, IsGrown, IsOrdinary, AreOrdinary, AreAttributes, IsLowerCase}
 use Rattle.dom_arena.specs.declared.kinds.Payload.{Payload}
 use Rattle.dom_arena.specs.declared.table.Slot.{Slot}
-use Rattle.dom_arena.specs.Contents.{payload_of}
+use Rattle.dom_arena.specs.Contents.{payload_of, holds_text}
 use Rattle.dom_arena.specs.Slots.{slot_at, IsUsed, last_behind, cell, with_payload}
 use Rattle.dom_arena.specs.Linked.{Linked, Stands, IsArena, tree_of}
-use Rattle.dom_arena.specs.Attributes.{content_at, with_attr_set, with_attr_dropped, is_element, attrs_in, with_attrs}
+use Rattle.dom_arena.specs.Attributes.{is_element, attrs_in, with_attrs}
 use Rattle.dom_arena.proofs.Links.{same_cases, IsCell, or_else-empty, used_inside, stands_used}
 use Rattle.dom_arena.proofs.Grafts.{slot_at-set_same, slot_at-set_other}
 use Rattle.dom_arena.proofs.Family.{found_node}
@@ -113,10 +113,7 @@ module _ (slots : List Slot) (f : Forest) (stands : Stands slots f) (k : ℕ) (u
 
 -- ---- the slots with other attributes stand for the tree with them
 
-module _ (slots : List Slot) (f : Forest) (stands : Stands slots f) (k : ℕ) (used : IsUsed slots k) (nz : k ≡ 0 → ⊥) (name : List ℕ) (attrs : List (List ℕ × List ℕ)) (ordinary : IsOrdinary (element name attrs)) where
-  abbrev new : Content
-  new = element name attrs
-
+module _ (slots : List Slot) (f : Forest) (stands : Stands slots f) (k : ℕ) (used : IsUsed slots k) (nz : k ≡ 0 → ⊥) (new : Content) (ordinary : IsOrdinary new) (grown : IsGrown (with_content k new f)) where
   abbrev new_slots : List Slot
   new_slots = with_payload k (payload_of new) slots
 
@@ -149,7 +146,7 @@ module _ (slots : List Slot) (f : Forest) (stands : Stands slots f) (k : ℕ) (u
     tree = record {
       once = λ j. omega (arith, counted j, stands.tree.once j);
       below = λ j le. omega (arith, counted j, stands.tree.below j (omega (arith, length_new)));
-      grown = IsGrown-with_content k new f (λ _. tt) stands.tree.grown;
+      grown = grown;
       ordinary = AreOrdinary-with_content k new f ordinary stands.tree.ordinary;
       few = omega (arith, size-with_content k new f, stands.tree.few);
       low = omega (arith, height-with_content k new f, stands.tree.low);
@@ -158,17 +155,17 @@ module _ (slots : List Slot) (f : Forest) (stands : Stands slots f) (k : ℕ) (u
   }
 
 -- all of it, from what a body says of its write
-pub rewritten_arena : (slots : List Slot) (nodes k : ℕ) (name : List ℕ) (attrs : List (List ℕ × List ℕ)) (made : List Slot) → IsArena slots nodes → IsUsed slots k → (k ≡ 0 → ⊥)
-    → IsOrdinary (element name attrs) → made ≡ with_payload k (payload_of (element name attrs)) slots
-    → IsArena made nodes × (tree_of made ≡ rewritten k (element name attrs) (tree_of slots))
-rewritten_arena slots nodes k name attrs made arena used nz ordinary e =
+pub rewritten_arena : (slots : List Slot) (nodes k : ℕ) (new : Content) (made : List Slot) → IsArena slots nodes → IsUsed slots k → (k ≡ 0 → ⊥)
+    → IsOrdinary new → IsGrown (with_content k new (tree_of slots).nodes) → made ≡ with_payload k (payload_of new) slots
+    → IsArena made nodes × (tree_of made ≡ rewritten k new (tree_of slots))
+rewritten_arena slots nodes k new made arena used nz ordinary grown e =
     let f : Forest = (tree_of slots).nodes in
-    let stands : Stands (with_payload k (payload_of (element name attrs)) slots) (with_content k (element name attrs) f) = Stands-rewritten slots f arena.stands k used nz name attrs ordinary in
-    let same_tree : tree_of made ≡ rewritten k (element name attrs) (tree_of slots) =
-    ap tree_of e ∙ tree_of-stands _ _ stands ∙ ap (λ (n : ℕ). record { nodes = with_content k (element name attrs) f; next = n }) (length-set slots k _) in (
+    let stands : Stands (with_payload k (payload_of new) slots) (with_content k new f) = Stands-rewritten slots f arena.stands k used nz new ordinary grown in
+    let same_tree : tree_of made ≡ rewritten k new (tree_of slots) =
+    ap tree_of e ∙ tree_of-stands _ _ stands ∙ ap (λ (n : ℕ). record { nodes = with_content k new f; next = n }) (length-set slots k _) in (
       record {
         stands = subst (λ (l : List Slot). Stands l (tree_of l).nodes) (sym e) (Stands-viewed _ _ stands);
-        counted = arena.counted ∙ sym (ap (λ (t : Tree). size t.nodes) same_tree ∙ size-with_content k (element name attrs) f);
+        counted = arena.counted ∙ sym (ap (λ (t : Tree). size t.nodes) same_tree ∙ size-with_content k new f);
       },
       same_tree,
     )
@@ -190,8 +187,9 @@ module _ (slots : List Slot) (nodes k : ℕ) (arena : IsArena slots nodes) (used
       → made ≡ with_payload k (with_attrs (with_attr name value (attrs_in (slot_at slots k).payload)) (slot_at slots k).payload) slots
       → IsArena made nodes × (tree_of made ≡ with_attr_set k name value (tree_of slots))
   set_arena name value made low e =
-      rewritten_arena slots nodes k (name_of here) (with_attr name value (attrs_of here)) made arena used nz
+      rewritten_arena slots nodes k (element (name_of here) (with_attr name value (attrs_of here))) made arena used nz
       (held.ordinary.0, AreAttributes-with_attr name value (attrs_of here) low held.ordinary.1)
+      (IsGrown-with_content k (element (name_of here) (with_attr name value (attrs_of here))) (tree_of slots).nodes (λ _. tt) arena.stands.tree.grown)
       (e ∙ ap (λ (p : Payload). with_payload k (with_attrs (with_attr name value (attrs_in p)) p) slots) held.payload)
 
   -- an attribute dropped
@@ -199,6 +197,41 @@ module _ (slots : List Slot) (nodes k : ℕ) (arena : IsArena slots nodes) (used
       → made ≡ with_payload k (with_attrs (without_attr name (attrs_in (slot_at slots k).payload)) (slot_at slots k).payload) slots
       → IsArena made nodes × (tree_of made ≡ with_attr_dropped k name (tree_of slots))
   drop_arena name made e =
-      rewritten_arena slots nodes k (name_of here) (without_attr name (attrs_of here)) made arena used nz
+      rewritten_arena slots nodes k (element (name_of here) (without_attr name (attrs_of here))) made arena used nz
       (held.ordinary.0, AreAttributes-without_attr name (attrs_of here) held.ordinary.1)
+      (IsGrown-with_content k (element (name_of here) (without_attr name (attrs_of here))) (tree_of slots).nodes (λ _. tt) arena.stands.tree.grown)
       (e ∙ ap (λ (p : Payload). with_payload k (with_attrs (without_attr name (attrs_in p)) p) slots) held.payload)
+
+-- ---- a text with other bytes
+
+-- nothing stands below a text
+text_childless : (d : Content) (kids : Forest) → holds_text (payload_of d) ≡ true → MayHave d kids → kids ≡ empty
+text_childless document kids h may = cc
+text_childless (element name attrs) kids h may = cc
+text_childless (text bytes) kids h may = may
+text_childless (comment bytes) kids h may = cc
+
+-- so another text may stand there
+IsGrown-with_text : (s : ℕ → Slot) (k : ℕ) (bytes : List ℕ) (f : Forest) (parent previous : ℕ) → Linked s parent previous f → holds_text (s k).payload ≡ true → IsGrown f → IsGrown (with_content k (text bytes) f)
+IsGrown-with_text s k bytes empty parent previous l is h = tt
+IsGrown-with_text s k bytes (node n c kids later) parent previous l is h =
+    elim (same_cases k n) [
+      | inl q ↦
+          let e : holds_text (payload_of c) ≡ true = ap (λ (x : Slot). holds_text x.payload) (sym (ap s q.0 ∙ l.0)) ∙ is in
+          rw q.2 (
+            ap (with_content k (text bytes)) (text_childless c kids e h.0),
+            IsGrown-with_text s k bytes kids n 0 l.1 is h.1,
+            IsGrown-with_text s k bytes later parent n l.2 is h.2,
+          )
+      | inr q ↦ rw q.2 (
+        MayHave-with_content k (text bytes) c kids h.0,
+        IsGrown-with_text s k bytes kids n 0 l.1 is h.1,
+        IsGrown-with_text s k bytes later parent n l.2 is h.2,
+      )
+    ]
+
+-- a text set
+pub text_arena : (slots : List Slot) (nodes k : ℕ) (bytes : List ℕ) (made : List Slot) → IsArena slots nodes → IsUsed slots k → (k ≡ 0 → ⊥) → holds_text (slot_at slots k).payload ≡ true
+    → made ≡ with_payload k (payload_of (text bytes)) slots → IsArena made nodes × (tree_of made ≡ with_text k bytes (tree_of slots))
+text_arena slots nodes k bytes made arena used nz is e =
+    rewritten_arena slots nodes k (text bytes) made arena used nz tt (IsGrown-with_text (slot_at slots) k bytes (tree_of slots).nodes 0 0 arena.stands.linked.1 is arena.stands.tree.grown) e

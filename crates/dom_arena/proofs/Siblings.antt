@@ -15,6 +15,10 @@ same-same n = elim (same_cases n n) [ inl p ↦ p.1 | inr p ↦ absurd (p.0 refl
 pub same-eq : (k n : ℕ) → k ≡ n → same k n ≡ 1
 same-eq k n e = elim (same_cases k n) [ inl p ↦ p.1 | inr p ↦ absurd (p.0 e) ]
 
+-- a number that is counted is not one that isn't
+pub counted_apart : (k j : ℕ) (f : Forest) → 0 < count k f → count j f ≡ 0 → k ≡ j → ⊥
+counted_apart k j f h z e = let w : count k f ≡ 0 = ap (λ i. count i f) e ∙ z in omega arith
+
 -- slots that agree on a forest hold it alike
 pub Linked-frame : (s s' : ℕ → Slot) (f : Forest) (parent previous : ℕ) → ((k : ℕ) → 0 < count k f → s' k ≡ s k) → Linked s parent previous f → Linked s' parent previous f
 Linked-frame s s' empty parent previous same_slots l = tt

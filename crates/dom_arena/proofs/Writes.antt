@@ -6,74 +6,64 @@ use Rattle.std.proofs.lemmas.List.{get_or_past, get_or_append_left, get_or-appen
 use Rattle.page_tree.specs.Forest.{Content, Forest, empty, rooted}
 use Rattle.dom_arena.specs.declared.kinds.Payload.TheVariants.{Free}
 use Rattle.dom_arena.specs.declared.table.Slot.{Slot}
-use Rattle.dom_arena.specs.Slots.{free, slot_at, IsUsed, cell, with_link, with_back_link, put}
+use Rattle.dom_arena.specs.Slots.{free, slot_at, IsUsed, cell, with_link, with_back_link, placed, put}
 use Rattle.dom_arena.specs.Linked.{Stands}
 use Rattle.dom_arena.proofs.Links.{used_inside}
 use Rattle.dom_arena.proofs.Siblings.{Linked-frame}
 use Rattle.dom_arena.proofs.Grafts.{slot_at-set_same, slot_at-set_other}
 
 -- a link keeps how many slots there are
-length-with_link : (n p b : ℕ) (slots : List Slot) → length (with_link n p b slots) ≡ length slots
+pub length-with_link : (n p b : ℕ) (slots : List Slot) → length (with_link n p b slots) ≡ length slots
 length-with_link n p b slots =
     elim (cases_eq b 0) [
       | inl z ↦ rw (eq-eqb b 0 z) (length-set slots p _)
       | inr ne ↦ rw (ne_eqb b 0 ne) (length-set slots b _)
     ]
 
-length-with_back_link : (n p a : ℕ) (slots : List Slot) → length (with_back_link n p a slots) ≡ length slots
+pub length-with_back_link : (n p a : ℕ) (slots : List Slot) → length (with_back_link n p a slots) ≡ length slots
 length-with_back_link n p a slots =
     elim (cases_eq a 0) [
       | inl z ↦ rw (eq-eqb a 0 z) (length-set slots p _)
       | inr ne ↦ rw (ne_eqb a 0 ne) (length-set slots a _)
     ]
 
--- so does a new node
-pub length-put : (n p b a : ℕ) (c : Content) (slots : List Slot) → length (put n p b a c slots) ≡ length slots
-length-put n p b a c slots =
-    length-with_back_link n p a (with_link n p b (set slots n (cell p empty a b c)))
-    ∙ length-with_link n p b (set slots n (cell p empty a b c))
-    ∙ length-set slots n (cell p empty a b c)
+-- so does a node that is placed
+pub length-placed : (n p b a : ℕ) (v : Slot) (slots : List Slot) → length (placed n p b a v slots) ≡ length slots
+length-placed n p b a v slots = length-with_back_link n p a (with_link n p b (set slots n v)) ∙ length-with_link n p b (set slots n v) ∙ length-set slots n v
 
-module _ (slots : List Slot) (n : ℕ) (v : Slot) (p b a : ℕ) (n_in : n < length slots) (p_in : p < length slots) (b_in : (b ≡ 0 → ⊥) → b < length slots) (a_in : (a ≡ 0 → ⊥) → a < length slots)
-    (p_not_n : p ≡ n → ⊥) (b_not_n : (b ≡ 0 → ⊥) → b ≡ n → ⊥) (a_not_n : (a ≡ 0 → ⊥) → a ≡ n → ⊥)
+-- the siblings beside a place, or their parent, get new links: forwards to x, and backwards to y
+module _ (slots : List Slot) (p b a x y : ℕ) (p_in : p < length slots) (b_in : (b ≡ 0 → ⊥) → b < length slots) (a_in : (a ≡ 0 → ⊥) → a < length slots)
     (b_not_p : (b ≡ 0 → ⊥) → b ≡ p → ⊥) (a_not_p : (a ≡ 0 → ⊥) → a ≡ p → ⊥) (a_not_b : (a ≡ 0 → ⊥) → a ≡ b → ⊥) where
-  -- the slots after the new one is written, after the first link, and after both
-  abbrev start : List Slot
-  start = set slots n v
-
+  -- the slots after the first link, and after both
   abbrev mid : List Slot
-  mid = with_link n p b start
+  mid = with_link x p b slots
 
   abbrev done : List Slot
-  done = with_back_link n p a mid
-
-  -- how many there are
-  length-start : length start ≡ length slots
-  length-start = length-set slots n v
+  done = with_back_link y p a mid
 
   -- which slot a link is written to
-  mid_first : b ≡ 0 → mid ≡ set start p (record (slot_at start p) { first_child = n })
+  mid_first : b ≡ 0 → mid ≡ set slots p (record (slot_at slots p) { first_child = x })
   mid_first z = cond-true (eqb b 0) _ _ (eq-eqb b 0 z)
 
-  mid_next : (b ≡ 0 → ⊥) → mid ≡ set start b (record (slot_at start b) { next = n })
+  mid_next : (b ≡ 0 → ⊥) → mid ≡ set slots b (record (slot_at slots b) { next = x })
   mid_next ne = cond-false (eqb b 0) _ _ (ne_eqb b 0 ne)
 
-  done_last : a ≡ 0 → done ≡ set mid p (record (slot_at mid p) { last_child = n })
+  done_last : a ≡ 0 → done ≡ set mid p (record (slot_at mid p) { last_child = y })
   done_last z = cond-true (eqb a 0) _ _ (eq-eqb a 0 z)
 
-  done_previous : (a ≡ 0 → ⊥) → done ≡ set mid a (record (slot_at mid a) { previous = n })
+  done_previous : (a ≡ 0 → ⊥) → done ≡ set mid a (record (slot_at mid a) { previous = y })
   done_previous ne = cond-false (eqb a 0) _ _ (ne_eqb a 0 ne)
 
   -- how many there are then
   length-mid : length mid ≡ length slots
-  length-mid = length-with_link n p b start ∙ length-start
+  length-mid = length-with_link x p b slots
 
   -- the other slots stay
-  mid_kept : (k : ℕ) → (b ≡ 0 → k ≡ p → ⊥) → ((b ≡ 0 → ⊥) → k ≡ b → ⊥) → slot_at mid k ≡ slot_at start k
+  mid_kept : (k : ℕ) → (b ≡ 0 → k ≡ p → ⊥) → ((b ≡ 0 → ⊥) → k ≡ b → ⊥) → slot_at mid k ≡ slot_at slots k
   mid_kept k np nb =
       elim (cases_eq b 0) [
-        | inl z ↦ ap (λ (l : List Slot). slot_at l k) (mid_first z) ∙ slot_at-set_other start p k _ (np z)
-        | inr ne ↦ ap (λ (l : List Slot). slot_at l k) (mid_next ne) ∙ slot_at-set_other start b k _ (nb ne)
+        | inl z ↦ ap (λ (l : List Slot). slot_at l k) (mid_first z) ∙ slot_at-set_other slots p k _ (np z)
+        | inr ne ↦ ap (λ (l : List Slot). slot_at l k) (mid_next ne) ∙ slot_at-set_other slots b k _ (nb ne)
       ]
 
   done_kept : (k : ℕ) → (a ≡ 0 → k ≡ p → ⊥) → ((a ≡ 0 → ⊥) → k ≡ a → ⊥) → slot_at done k ≡ slot_at mid k
@@ -83,44 +73,31 @@ module _ (slots : List Slot) (n : ℕ) (v : Slot) (p b a : ℕ) (n_in : n < leng
         | inr ne ↦ ap (λ (l : List Slot). slot_at l k) (done_previous ne) ∙ slot_at-set_other mid a k _ (na ne)
       ]
 
-  -- beside the new node, its parent and its neighbours each slot stays
-  pub kept : (k : ℕ) → (k ≡ n → ⊥) → (k ≡ p → ⊥) → ((b ≡ 0 → ⊥) → k ≡ b → ⊥) → ((a ≡ 0 → ⊥) → k ≡ a → ⊥) → slot_at done k ≡ slot_at slots k
-  kept k nn np nb na = done_kept k (λ _. np) na ∙ mid_kept k (λ _. np) nb ∙ slot_at-set_other slots n k v nn
+  pub linked_kept : (k : ℕ) → (k ≡ p → ⊥) → ((b ≡ 0 → ⊥) → k ≡ b → ⊥) → ((a ≡ 0 → ⊥) → k ≡ a → ⊥) → slot_at done k ≡ slot_at slots k
+  linked_kept k np nb na = done_kept k (λ _. np) na ∙ mid_kept k (λ _. np) nb
 
-  -- the new node
-  pub at_new : slot_at done n ≡ v
-  at_new =
-      done_kept n (λ z e. p_not_n (sym e)) (λ ne e. a_not_n ne (sym e))
-      ∙ mid_kept n (λ z e. p_not_n (sym e)) (λ ne e. b_not_n ne (sym e))
-      ∙ slot_at-set_same slots n v n_in
-
-  -- the parent
-  parent_started : slot_at start p ≡ slot_at slots p
-  parent_started = slot_at-set_other slots n p v p_not_n
-
-  mid_parent : (first : ℕ) → (b ≡ 0 → first ≡ n) → ((b ≡ 0 → ⊥) → first ≡ (slot_at slots p).first_child) → slot_at mid p ≡ record (slot_at slots p) { first_child = first }
+  mid_parent : (first : ℕ) → (b ≡ 0 → first ≡ x) → ((b ≡ 0 → ⊥) → first ≡ (slot_at slots p).first_child) → slot_at mid p ≡ record (slot_at slots p) { first_child = first }
   mid_parent first new old =
       elim (cases_eq b 0) [
         | inl z ↦
             ap (λ (l : List Slot). slot_at l p) (mid_first z)
-            ∙ slot_at-set_same start p _ (omega (arith, length-start))
-            ∙ ap (λ (x : Slot). record x { first_child = n }) parent_started
+            ∙ slot_at-set_same slots p _ p_in
             ∙ ap (λ (k : ℕ). record (slot_at slots p) { first_child = k }) (sym (new z))
         | inr ne ↦
-            mid_kept p (λ z. absurd (ne z)) (λ _ e. b_not_p ne (sym e)) ∙ parent_started
+            mid_kept p (λ z. absurd (ne z)) (λ _ e. b_not_p ne (sym e))
             ∙ ap (λ (k : ℕ). record (slot_at slots p) { first_child = k }) (sym (old ne))
       ]
 
-  -- the parent has new ends of its children where the new node is one
-  pub at_parent : (first last : ℕ) → (b ≡ 0 → first ≡ n) → ((b ≡ 0 → ⊥) → first ≡ (slot_at slots p).first_child)
-      → (a ≡ 0 → last ≡ n) → ((a ≡ 0 → ⊥) → last ≡ (slot_at slots p).last_child)
+  -- the parent has new ends of its children where the place is at one
+  pub linked_parent : (first last : ℕ) → (b ≡ 0 → first ≡ x) → ((b ≡ 0 → ⊥) → first ≡ (slot_at slots p).first_child)
+      → (a ≡ 0 → last ≡ y) → ((a ≡ 0 → ⊥) → last ≡ (slot_at slots p).last_child)
       → slot_at done p ≡ record (slot_at slots p) { first_child = first; last_child = last }
-  at_parent first last new_first old_first new_last old_last =
+  linked_parent first last new_first old_first new_last old_last =
       elim (cases_eq a 0) [
         | inl z ↦
             ap (λ (l : List Slot). slot_at l p) (done_last z)
             ∙ slot_at-set_same mid p _ (omega (arith, length-mid))
-            ∙ ap (λ (x : Slot). record x { last_child = n }) (mid_parent first new_first old_first)
+            ∙ ap (λ (s : Slot). record s { last_child = y }) (mid_parent first new_first old_first)
             ∙ ap (λ (k : ℕ). record (slot_at slots p) { first_child = first; last_child = k }) (sym (new_last z))
         | inr ne ↦
             done_kept p (λ z. absurd (ne z)) (λ _ e. a_not_p ne (sym e)) ∙ mid_parent first new_first old_first
@@ -128,20 +105,73 @@ module _ (slots : List Slot) (n : ℕ) (v : Slot) (p b a : ℕ) (n_in : n < leng
       ]
 
   -- the sibling before
-  pub at_before : (b ≡ 0 → ⊥) → slot_at done b ≡ record (slot_at slots b) { next = n }
-  at_before ne =
+  pub linked_before : (b ≡ 0 → ⊥) → slot_at done b ≡ record (slot_at slots b) { next = x }
+  linked_before ne =
       done_kept b (λ _. b_not_p ne) (λ na e. a_not_b na (sym e))
       ∙ ap (λ (l : List Slot). slot_at l b) (mid_next ne)
-      ∙ slot_at-set_same start b _ (omega (arith, length-start, b_in ne))
-      ∙ ap (λ (x : Slot). record x { next = n }) (slot_at-set_other slots n b v (b_not_n ne))
+      ∙ slot_at-set_same slots b _ (b_in ne)
 
   -- the sibling behind
-  pub at_after : (a ≡ 0 → ⊥) → slot_at done a ≡ record (slot_at slots a) { previous = n }
-  at_after ne =
+  pub linked_after : (a ≡ 0 → ⊥) → slot_at done a ≡ record (slot_at slots a) { previous = y }
+  linked_after ne =
       ap (λ (l : List Slot). slot_at l a) (done_previous ne)
       ∙ slot_at-set_same mid a _ (omega (arith, length-mid, a_in ne))
-      ∙ ap (λ (x : Slot). record x { previous = n })
-      (mid_kept a (λ _. a_not_p ne) (λ nb e. a_not_b ne e) ∙ slot_at-set_other slots n a v (a_not_n ne))
+      ∙ ap (λ (s : Slot). record s { previous = y }) (mid_kept a (λ _. a_not_p ne) (λ nb e. a_not_b ne e))
+
+-- the same where a node's slot is written before
+module _ (slots : List Slot) (n : ℕ) (v : Slot) (p b a : ℕ) (n_in : n < length slots) (p_in : p < length slots) (b_in : (b ≡ 0 → ⊥) → b < length slots) (a_in : (a ≡ 0 → ⊥) → a < length slots)
+    (p_not_n : p ≡ n → ⊥) (b_not_n : (b ≡ 0 → ⊥) → b ≡ n → ⊥) (a_not_n : (a ≡ 0 → ⊥) → a ≡ n → ⊥)
+    (b_not_p : (b ≡ 0 → ⊥) → b ≡ p → ⊥) (a_not_p : (a ≡ 0 → ⊥) → a ≡ p → ⊥) (a_not_b : (a ≡ 0 → ⊥) → a ≡ b → ⊥) where
+  -- the slots after the node's is written, and after both links
+  abbrev start : List Slot
+  start = set slots n v
+
+  abbrev placed_slots : List Slot
+  placed_slots = with_back_link n p a (with_link n p b start)
+
+  p_in_start : p < length start
+  p_in_start = omega (arith, length-set slots n v)
+
+  b_in_start : (b ≡ 0 → ⊥) → b < length start
+  b_in_start ne = omega (arith, length-set slots n v, b_in ne)
+
+  a_in_start : (a ≡ 0 → ⊥) → a < length start
+  a_in_start ne = omega (arith, length-set slots n v, a_in ne)
+
+  -- beside the node, its parent and its neighbours each slot stays
+  pub kept : (k : ℕ) → (k ≡ n → ⊥) → (k ≡ p → ⊥) → ((b ≡ 0 → ⊥) → k ≡ b → ⊥) → ((a ≡ 0 → ⊥) → k ≡ a → ⊥) → slot_at placed_slots k ≡ slot_at slots k
+  kept k nn np nb na = linked_kept start p b a n n p_in_start b_in_start a_in_start b_not_p a_not_p a_not_b k np nb na ∙ slot_at-set_other slots n k v nn
+
+  -- the node
+  pub at_new : slot_at placed_slots n ≡ v
+  at_new =
+      linked_kept start p b a n n p_in_start b_in_start a_in_start b_not_p a_not_p a_not_b n (λ e. p_not_n (sym e)) (λ ne e. b_not_n ne (sym e)) (λ ne e. a_not_n ne (sym e))
+      ∙ slot_at-set_same slots n v n_in
+
+  -- the parent
+  parent_started : slot_at start p ≡ slot_at slots p
+  parent_started = slot_at-set_other slots n p v p_not_n
+
+  pub at_parent : (first last : ℕ) → (b ≡ 0 → first ≡ n) → ((b ≡ 0 → ⊥) → first ≡ (slot_at slots p).first_child)
+      → (a ≡ 0 → last ≡ n) → ((a ≡ 0 → ⊥) → last ≡ (slot_at slots p).last_child)
+      → slot_at placed_slots p ≡ record (slot_at slots p) { first_child = first; last_child = last }
+  at_parent first last new_first old_first new_last old_last =
+      linked_parent start p b a n n p_in_start b_in_start a_in_start b_not_p a_not_p a_not_b first last
+      new_first (λ ne. old_first ne ∙ sym (ap (λ (s : Slot). s.first_child) parent_started))
+      new_last (λ ne. old_last ne ∙ sym (ap (λ (s : Slot). s.last_child) parent_started))
+      ∙ ap (λ (s : Slot). record s { first_child = first; last_child = last }) parent_started
+
+  -- the sibling before
+  pub at_before : (b ≡ 0 → ⊥) → slot_at placed_slots b ≡ record (slot_at slots b) { next = n }
+  at_before ne =
+      linked_before start p b a n n p_in_start b_in_start a_in_start b_not_p a_not_p a_not_b ne
+      ∙ ap (λ (s : Slot). record s { next = n }) (slot_at-set_other slots n b v (b_not_n ne))
+
+  -- the sibling behind
+  pub at_after : (a ≡ 0 → ⊥) → slot_at placed_slots a ≡ record (slot_at slots a) { previous = n }
+  at_after ne =
+      linked_after start p b a n n p_in_start b_in_start a_in_start b_not_p a_not_p a_not_b ne
+      ∙ ap (λ (s : Slot). record s { previous = n }) (slot_at-set_other slots n a v (a_not_n ne))
 
 -- a write that keeps what its slot holds keeps which numbers are used
 payload-set : (slots : List Slot) (i k : ℕ) (v : Slot) → v.payload ≡ (slot_at slots i).payload → (slot_at (set slots i v) k).payload ≡ (slot_at slots k).payload
@@ -155,7 +185,7 @@ payload-set slots i k v same =
     ]
 
 -- a link keeps what each slot holds
-payload-with_link : (n p b k : ℕ) (slots : List Slot) → (slot_at (with_link n p b slots) k).payload ≡ (slot_at slots k).payload
+pub payload-with_link : (n p b k : ℕ) (slots : List Slot) → (slot_at (with_link n p b slots) k).payload ≡ (slot_at slots k).payload
 payload-with_link n p b k slots =
     elim (cases_eq b 0) [
       | inl z ↦ rw (eq-eqb b 0 z) (payload-set slots p k _ refl)
@@ -163,7 +193,7 @@ payload-with_link n p b k slots =
     ]
 
 -- nor does one back
-payload-with_back_link : (n p a k : ℕ) (slots : List Slot) → (slot_at (with_back_link n p a slots) k).payload ≡ (slot_at slots k).payload
+pub payload-with_back_link : (n p a k : ℕ) (slots : List Slot) → (slot_at (with_back_link n p a slots) k).payload ≡ (slot_at slots k).payload
 payload-with_back_link n p a k slots =
     elim (cases_eq a 0) [
       | inl z ↦ rw (eq-eqb a 0 z) (payload-set slots p k _ refl)

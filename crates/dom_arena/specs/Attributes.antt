@@ -1,36 +1,8 @@
--- Attributes set and dropped, in the tree and in a slot.
-use Rattle.std.specs.Prelude.{ℕ, zero, suc, ◌==◌, Bool, true, false, cond, List, [], ◌∷◌, Option, Some, None, unwrap_or}
+-- Attributes in a slot.
+use Rattle.std.specs.Prelude.{ℕ, zero, suc, Bool, true, false, cond, List, [], ◌∷◌}
 use Rattle.std.specs.Str.{bytes_eq}
-use Rattle.page_tree.specs.Forest.{Content, document, element, text, comment, Forest, empty, node, Tree, rooted, find, content, name_of, attrs_of}
-use Rattle.page_tree.specs.Edits.{rewritten, with_attr, without_attr}
 use Rattle.dom_arena.specs.declared.kinds.Payload.{Payload}
 use Rattle.dom_arena.specs.declared.kinds.Payload.TheVariants.{Free, Document, Element, Text, Comment}
-use Rattle.dom_arena.specs.declared.refusals.DomError.{DomError}
-use Rattle.dom_arena.specs.declared.refusals.DomError.TheVariants.{NoSuchNode, NotElement, IsDocument}
-
--- what the node n is; the document where there is none
-abbrev pub content_at : ℕ → Tree → Content
-content_at n t = unwrap_or (content (find n (rooted t.nodes))) document
-
--- the tree where the element n has an attribute of this name and value
-abbrev pub with_attr_set : ℕ → List ℕ → List ℕ → Tree → Tree
-with_attr_set n name value t = rewritten n (element (name_of (content_at n t)) (with_attr name value (attrs_of (content_at n t)))) t
-
--- the tree where the element n has no attribute of this name
-abbrev pub with_attr_dropped : ℕ → List ℕ → Tree → Tree
-with_attr_dropped n name t = rewritten n (element (name_of (content_at n t)) (without_attr name (attrs_of (content_at n t)))) t
-
--- the refusal by what was found under a number that isn't the document's
-abbrev pub element_among : ℕ → Forest → Option DomError
-element_among n empty = Some (NoSuchNode n)
-element_among n (node m document kids later) = Some (NotElement n)
-element_among n (node m (element name attrs) kids later) = None
-element_among n (node m (text bytes) kids later) = Some (NotElement n)
-element_among n (node m (comment bytes) kids later) = Some (NotElement n)
-
--- the refusal of a change of an attribute: n is the document, or there is no node n, or it is no element
-abbrev pub attr_refused : ℕ → Tree → Option DomError
-attr_refused n t = cond (n == 0) (Some IsDocument) (element_among n (find n (rooted t.nodes)))
 
 -- whether a slot holds an element
 abbrev pub is_element : Payload → Bool

@@ -31,6 +31,14 @@ may_hold (Element name attrs) = true
 may_hold (Text bytes) = false
 may_hold (Comment bytes) = false
 
+-- whether a slot holds a text
+abbrev pub holds_text : Payload → Bool
+holds_text Free = false
+holds_text Document = false
+holds_text (Element name attrs) = false
+holds_text (Text bytes) = true
+holds_text (Comment bytes) = false
+
 -- the kind of a node
 abbrev pub kind_of : Content → NodeKind
 kind_of document = KindDocument

@@ -1,18 +1,20 @@
 -- The slots and the refusals, computed on a small page.
-use Rattle.std.specs.Prelude.{◌≡◌, ℕ, List, [], ◌∷◌, codes, Some, None, refl}
-use Rattle.page_tree.specs.Fragments.{TooDeep as DepthPassed, TooManyNodes as NumberPassed}
+use Rattle.std.specs.Prelude.{◌≡◌, ℕ, List, [], ◌∷◌, codes, Some, option_map, refl}
+use Rattle.page_tree.specs.Edits.{moved}
+use Rattle.page_tree.specs.Refusals.{place_refused, relink_refused}
 use Rattle.page_tree.specs.Forest.{document, element, text, comment, Forest, empty, node, Tree}
 use Rattle.dom_arena.specs.declared.kinds.NewNode.{NewNode}
 use Rattle.dom_arena.specs.declared.kinds.NewNode.TheVariants.{Element as NewElement, Text as NewText}
-use Rattle.dom_arena.specs.declared.refusals.DomError.TheVariants.{NoSuchNode, NotElement, BadPlace, IsDocument, TooDeep, TooManyNodes}
+use Rattle.dom_arena.specs.declared.refusals.DomError.TheVariants.{NoSuchNode, BadPlace, IntoItself}
 use Rattle.dom_arena.specs.declared.table.Slot.{Slot}
 use Rattle.dom_arena.specs.declared.fragments.Tail.{Tail}
-use Rattle.dom_arena.specs.Slots.{free, slot_at, cell, with_link, with_back_link, put, climbed}
+use Rattle.dom_arena.specs.Slots.{free, slot_at, cell, with_link, with_back_link, placed, put, past, skipped_to, climbed}
 use Rattle.dom_arena.specs.Hanging.{parent_behind, sibling_before, sibling_after, hung_in, tail_behind}
 use Rattle.dom_arena.specs.Linked.{tree_of}
-use Rattle.dom_arena.specs.Attributes.{content_at, with_attr_set, with_attr_dropped, attr_refused, place_of}
+use Rattle.dom_arena.specs.Attributes.{place_of}
 use Rattle.dom_arena.specs.Contents.{new_nodes}
-use Rattle.dom_arena.specs.Refusals.{place_refused, limits_refused, add_refused, append_refused, dom_error, part_refused, graft_refused}
+use Rattle.dom_arena.specs.Parts.{part_from}
+use Rattle.dom_arena.specs.Refusals.{error_of}
 
 -- <p>ab</p><!--c-->, where number 3 is given and gone
 abbrev ab : Forest
@@ -47,46 +49,30 @@ put_in = refl
 steps_up : climbed (slot_at slots) 2 2 ≡ 0
 steps_up = refl
 
--- the refusals, each before the next
+-- the page without the text, whose slot leads past itself still
+led_past : tree_of (past 2 slots) ≡ record { nodes = node 1 (element (codes "p") []) empty (node 4 (comment (codes "c")) empty empty); next = 5 }
+led_past = refl
 
-no_node : place_refused 3 9 tree ≡ Some (NoSuchNode 3)
+-- the comment in front of p
+placed_first : tree_of (placed 4 0 0 1 (cell 0 empty 1 0 (comment (codes "c"))) (past 4 slots)) ≡ moved 4 0 0 tree
+placed_first = refl
+
+part_of_p : part_from slots 1 ≡ page
+part_of_p = refl
+
+text_skipped : skipped_to (slot_at slots) 2 2 ≡ 0
+text_skipped = refl
+
+-- the errors of refusals
+
+no_node : option_map error_of (place_refused 3 9 tree) ≡ Some (NoSuchNode 3)
 no_node = refl
 
-no_children_of_texts : place_refused 2 9 tree ≡ Some (NotElement 2)
-no_children_of_texts = refl
+into_itself : option_map error_of (relink_refused 1 1 0 tree) ≡ Some (IntoItself 1)
+into_itself = refl
 
-no_children_of_comments : place_refused 4 0 tree ≡ Some (NotElement 4)
-no_children_of_comments = refl
-
-past_the_children : place_refused 1 2 tree ≡ Some (BadPlace 2)
+past_the_children : option_map error_of (relink_refused 1 0 2 tree) ≡ Some (BadPlace 2)
 past_the_children = refl
-
-behind_the_children : place_refused 1 1 tree ≡ None
-behind_the_children = refl
-
-document_has_children : place_refused 0 2 tree ≡ None
-document_has_children = refl
-
-place_is_first : add_refused 0 3 tree ≡ Some (BadPlace 3)
-place_is_first = refl
-
-deepest : limits_refused (Some 511) 999999 ≡ None
-deepest = refl
-
-depth_is_before_number : limits_refused (Some 512) 1000000 ≡ Some TooDeep
-depth_is_before_number = refl
-
-one_too_many : limits_refused (Some 511) 1000000 ≡ Some TooManyNodes
-one_too_many = refl
-
-added_node : add_refused 1 0 tree ≡ None
-added_node = refl
-
-appended_node : append_refused 1 tree ≡ None
-appended_node = refl
-
-not_appended : append_refused 4 tree ≡ Some (NotElement 4)
-not_appended = refl
 
 -- fragments
 
@@ -96,25 +82,6 @@ part = (0, NewElement (codes "b") []) ∷ (1, NewText (codes "x")) ∷ []
 
 nodes_of_a_part : new_nodes part ≡ (0, element (codes "b") []) ∷ (1, text (codes "x")) ∷ []
 nodes_of_a_part = refl
-
-depth_passed : dom_error DepthPassed ≡ TooDeep
-depth_passed = refl
-
-number_passed : dom_error NumberPassed ≡ TooManyNodes
-number_passed = refl
-
--- the second node would be too deep and one too many
-depth_is_before_number_in_a_part : part_refused (Some 511) 999999 (new_nodes part) ≡ Some TooDeep
-depth_is_before_number_in_a_part = refl
-
-second_is_one_too_many : part_refused (Some 510) 999999 (new_nodes part) ≡ Some TooManyNodes
-second_is_one_too_many = refl
-
-place_is_before_limits : graft_refused 0 3 (new_nodes part) tree ≡ Some (BadPlace 3)
-place_is_before_limits = refl
-
-grafted_part : graft_refused 0 1 (new_nodes part) tree ≡ None
-grafted_part = refl
 
 -- behind p, which stands before the comment 4, the next node of a fragment gets the slot 3
 abbrev tail : Tail
@@ -150,28 +117,7 @@ nothing_stands_in_a_comment = refl
 element_takes_the_next : tail_behind tail 0 3 0 (element (codes "b") []) ≡ record { inner = 3; level = 1; top = 3 }
 element_takes_the_next = refl
 
--- changes of attributes
-
-abbrev ids : Tree
-ids = record { nodes = node 1 (element (codes "p") ((codes "id", codes "top") ∷ (codes "class", []) ∷ [])) ab empty; next = 3 }
-
-attrs_of_the_document : attr_refused 0 ids ≡ Some IsDocument
-attrs_of_the_document = refl
-
-attrs_of_no_node : attr_refused 3 ids ≡ Some (NoSuchNode 3)
-attrs_of_no_node = refl
-
-attrs_of_a_text : attr_refused 2 ids ≡ Some (NotElement 2)
-attrs_of_a_text = refl
-
-attrs_of_an_element : attr_refused 1 ids ≡ None
-attrs_of_an_element = refl
-
-attr_set : content_at 1 (with_attr_set 1 (codes "id") (codes "x") ids) ≡ element (codes "p") ((codes "id", codes "x") ∷ (codes "class", []) ∷ [])
-attr_set = refl
-
-attr_dropped : content_at 1 (with_attr_dropped 1 (codes "id") ids) ≡ element (codes "p") ((codes "class", []) ∷ [])
-attr_dropped = refl
+-- places of attributes
 
 place_of_class : place_of (codes "class") ((codes "id", codes "top") ∷ (codes "class", []) ∷ []) ≡ 1
 place_of_class = refl

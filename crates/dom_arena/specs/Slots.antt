@@ -60,9 +60,23 @@ with_back_link n parent after slots =
     (slice_set slots parent (record (slot_at slots parent) { last_child = n }))
     (slice_set slots after (record (slot_at slots after) { previous = n }))
 
+-- the slots where that of a node n holds this and the siblings beside a place, 0 standing for none, or their parent lead to n
+abbrev pub placed : ℕ → ℕ → ℕ → ℕ → Slot → List Slot → List Slot
+placed n parent before after slot slots = with_back_link n parent after (with_link n parent before (slice_set slots n slot))
+
 -- the slots with a new node n between two siblings, 0 standing for none
 abbrev pub put : ℕ → ℕ → ℕ → ℕ → Content → List Slot → List Slot
-put n parent before after c slots = with_back_link n parent after (with_link n parent before (slice_set slots n (cell parent empty after before c)))
+put n parent before after c slots = placed n parent before after (cell parent empty after before c) slots
+
+-- the slots where the siblings beside the node k, or its parent, lead past it
+abbrev pub past : ℕ → List Slot → List Slot
+past k slots =
+    with_back_link (slot_at slots k).previous (slot_at slots k).parent (slot_at slots k).next
+    (with_link (slot_at slots k).next (slot_at slots k).parent (slot_at slots k).previous slots)
+
+-- a number, or where it is the one to be skipped that of the next sibling
+abbrev pub skipped_to : (ℕ → Slot) → ℕ → ℕ → ℕ
+skipped_to s skipped k = cond (k == skipped) (s k).next k
 
 -- the number so many steps up from k
 abbrev pub climbed : (ℕ → Slot) → ℕ → ℕ → ℕ
