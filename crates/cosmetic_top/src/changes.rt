@@ -7,11 +7,7 @@ use mutation_script::{Answer, PageState, ScriptLine, read_line};
 use std::alloc::{AllocError, Global};
 
 /// Makes the change that a line asks for, and answers the line. A line that is refused, blank or bad changes nothing.
-pub fn follow_line(
-    alloc: Global,
-    page: &mut PageState,
-    line: &[u8],
-) -> Result<Answer, AllocError>
+pub fn follow_line(alloc: Global, page: &mut PageState, line: &[u8]) -> Result<Answer, AllocError>
     requires { page.old.tree.next + length line.now ≤ 4294967295 }
     ensures answer { IfOk result (λ given. given ≡ answer (script_line line.now) page.old) }
     ensures page { OnOk result (page.new ≡ after (script_line line.now) page.old) }

@@ -193,6 +193,14 @@ fn write_page_step<O: Sink, L: Ledger>(
     ensures fault { IsErrOf result ReportError.WriteFault → Rose (O.faults out.old) (O.faults out.new) }
 {
     let rows = hidden_rows(alloc, checks, filters, &page.tree, page.path.as_str())?;
-    write_step(alloc, out, number, answer, &page.tree, &filters.active, &rows)?;
+    write_step(
+        alloc,
+        out,
+        number,
+        answer,
+        &page.tree,
+        &filters.active,
+        &rows,
+    )?;
     Ok(())
 }

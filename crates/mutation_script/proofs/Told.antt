@@ -7,7 +7,7 @@ use Rattle.std.specs.declared.alloc.AllocError.{AllocError}
 use Rattle.page_tree.specs.Forest.{Tree}
 use Rattle.page_tree.specs.Refusals.{Refusal}
 use Rattle.page_tree.specs.Refusals as refusals
-use Rattle.mutation_script.specs.Errors.{error_of}
+use Rattle.dom_arena.specs.Refusals.{error_of}
 use Rattle.dom_arena.specs.declared.refusals.DomError.{DomError}
 use Rattle.dom_arena.specs.declared.refusals.DomError.TheVariants as errors
 use Rattle.mutation_script.specs.declared.answer.Outcome.{Outcome}
@@ -32,7 +32,7 @@ refused-error_of refusals.TooDeep = refl
 refused-error_of refusals.TooManyNodes = refl
 
 -- a call that takes no memory
-pub ok_unless : {T : Type 0} (done : Result T DomError) → IsOk done → IsOkUnless done errors.NoMemory
+ok_unless : {T : Type 0} (done : Result T DomError) → IsOk done → IsOkUnless done errors.NoMemory
 ok_unless (Ok value) h = tt
 ok_unless (Err error) h = absurd (false≢true h)
 
@@ -46,12 +46,8 @@ on_ok : {T E : Type 0} {Q : Type 0} (r : Result T E) → Q → OnOk r Q
 on_ok (Ok value) q = q
 on_ok (Err error) q = tt
 
-on_err : {T E : Type 0} {Q : Type 0} (r : Result T E) → Q → OnErr r Q
-on_err (Ok value) q = tt
-on_err (Err error) q = q
-
 -- a refusal, told
-pub refused_told : {T : Type 0} (r : Refusal) (done : Result T DomError) → done ≡ Err (error_of r) → told done ≡ Ok (outcomes.Refused (error_of r))
+refused_told : {T : Type 0} (r : Refusal) (done : Result T DomError) → done ≡ Err (error_of r) → told done ≡ Ok (outcomes.Refused (error_of r))
 refused_told r done h = ap told h ∙ refused-error_of r
 
 no_memory_told : (error : DomError) → error ≡ errors.NoMemory → refused error ≡ Err alloc_error
@@ -76,8 +72,3 @@ module _ {T : Type 0} (page : PageState) (t new : Tree) where
       subst (λ (r : Result Outcome AllocError). OnOk r (with_tree page new ≡ with_tree page t)) (sym (is ∙ no_memory_told error h)) tt
   told_page (Some r) done result h ok err is =
       on_ok result (ap (with_tree page) (subst (λ (d : Result T DomError). OnErr d (new ≡ page.tree)) h err))
-
-  pub told_err : (done : Result T DomError) (result : Result Outcome AllocError) → OnErr done (new ≡ page.tree) → result ≡ told done
-      → OnErr result (with_tree page new ≡ page)
-  told_err (Ok value) result err is = subst (λ (r : Result Outcome AllocError). OnErr r (with_tree page new ≡ page)) (sym is) tt
-  told_err (Err error) result err is = on_err result (ap (with_tree page) err)

@@ -6,7 +6,7 @@ use Rattle.page_tree.specs.Forest.{Tree}
 use Rattle.page_tree.specs.Edits.{with_attr_set, with_attr_dropped, with_text, detached, moved}
 use Rattle.page_tree.specs.Fragments.{with_fragment}
 use Rattle.page_tree.specs.Refusals.{Refusal, attr_refused, text_refused, graft_refused, detach_refused, relink_refused}
-use Rattle.mutation_script.specs.Errors.{error_of}
+use Rattle.dom_arena.specs.Refusals.{error_of}
 use Rattle.html_meaning.specs.Page.{fragment}
 use Rattle.mutation_script.specs.declared.answer.Answer.{Answer}
 use Rattle.mutation_script.specs.declared.answer.Answer.TheVariants as answers

@@ -1,4 +1,3 @@
-pub mod Errors
 pub mod Fields
 pub mod Lines
 pub mod Reads

@@ -19,9 +19,7 @@ pub fn cut(text: &str) -> (&str, Option<&str>)
 
 // The next field as a number.
 pub fn number_field(rest: Option<&str>) -> Result<(u32, Option<&str>), BadLine>
-    ensures {
-        Reads (λ read. (read.0, option_copied read.1)) result (number_field (option_copied rest.entry))
-    }
+    ensures { Reads (λ read. (read.0, option_copied read.1)) result (number_field (option_copied rest.entry)) }
 {
     let (field, rest) = cut(rest.ok_or(BadLine::MissingField)?);
     let number = plain_number(field, u32::MAX).ok_or(BadLine::BadNumber)?;
@@ -30,10 +28,8 @@ pub fn number_field(rest: Option<&str>) -> Result<(u32, Option<&str>), BadLine>
 
 // The next field as the name of an attribute, in the letter case of the line.
 pub fn name_field(rest: Option<&str>) -> Result<(&str, Option<&str>), BadLine>
-    ensures {
-        Reads (λ read. (str_to_ascii_lowercase read.0.now, option_copied read.1)) result
-            (name_field (option_copied rest.entry))
-    }
+    ensures { Reads (λ read. (str_to_ascii_lowercase read.0.now, option_copied read.1)) result
+        (name_field (option_copied rest.entry)) }
 {
     let (field, rest) = cut(rest.ok_or(BadLine::MissingField)?);
     if !is_name(field) {

@@ -36,11 +36,13 @@ mod tests {
                 "text {n} [{}]",
                 text.as_str()
             ),
-            ScriptLine::Mutation(Mutation::Insert {
-                parent,
-                place,
-                html,
-            }) => format!(in alloc; "insert {parent} {place} [{}]", html.as_str()),
+            ScriptLine::Mutation(
+                Mutation::Insert {
+                    parent,
+                    place,
+                    html,
+                },
+            ) => format!(in alloc; "insert {parent} {place} [{}]", html.as_str()),
             ScriptLine::Mutation(Mutation::Delete { n }) => format!(in alloc; "delete {n}"),
             ScriptLine::Mutation(Mutation::Relink { n, parent, place }) => format!(in alloc;
                 "move {n} {parent} {place}"
