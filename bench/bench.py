@@ -9,6 +9,7 @@ It makes its own input in a temporary folder.
 - HTML documents that Debian's documentation packages ship, where they are installed (python3-doc, sqlite3-doc, nodejs-doc
   and others), the largest first, without filters: reading them should reach 40 MB a second, with less than 25 bytes of memory
   for each byte. What this process holds, some 26 MB, is the least that is shown as the peak of a run.
+- A million small elements, each with an attribute: what a node takes at the peak.
 - Hostile pages, each in two sizes: the larger one should take at most about twice as long.
 - A list of selectors over a page of one element: how many lines are read in a second, their patterns and the text that is
   written for each of them included.
@@ -22,6 +23,7 @@ It makes its own input in a temporary folder.
 
 import argparse
 import os
+import random
 import re
 import subprocess
 import sys
@@ -178,6 +180,12 @@ def pages(program, folder, name, make):
     return compare(f"{name}, 500,000 for 200,000 nodes", *seconds)
 
 
+def small_elements(program, folder):
+    """As many nodes as there may be, each with an attribute: what a node takes at the peak."""
+    write(Path(folder, "page"), ["<br class=ad>"] * 1_000_000)
+    return measure(program, folder, "1,000,000 small elements", ["apply", "none", "page"]) is not None
+
+
 def documents(program, folder):
     """The largest documents of the installed packages, without those that a page's size rules out."""
     found = [(file.stat().st_size, file) for file in Path("/usr/share/doc").rglob("*.html") if file.is_file()]
@@ -210,10 +218,31 @@ def attributes_page(size):
     yield ">"
 
 
+def unordered_attributes_page(size):
+    """The same, whose names are in no order."""
+    names = random.Random(1)
+    yield "<b"
+    for _ in range(size // 8):
+        yield " " + "".join(names.choices("abcdefghijklmnopqrstuvwxyz", k=7))
+    yield ">"
+
+
+def end_tags_page(length, size):
+    """Five hundred open elements whose name has this length, and end tags of another name as long."""
+    first = f"<{'b' * length}>" * 500
+    fill = f"</{'b' * (length - 1)}c>"
+    yield first
+    for _ in range((size - len(first)) // len(fill)):
+        yield fill
+
+
 def hostile(program, folder):
     """Each hostile page, and one twice as large."""
     makers = {name: lambda size, name=name: hostile_page(name, size) for name in HOSTILE}
     makers["attributes of a tag"] = attributes_page
+    makers["attributes in no order"] = unordered_attributes_page
+    for length in (8, 3000):
+        makers[f"end tags of {length:,} bytes"] = lambda size, length=length: end_tags_page(length, size)
     ran = True
     for name, make in makers.items():
         seconds = []
@@ -308,7 +337,7 @@ def main():
         Path(folder, "list").write_text(filters(50))
         ran = [pages(program, folder, "flat", flat_page), pages(program, folder, "nested", nested_page)]
         Path(folder, "none").write_text("")
-        ran += [documents(program, folder), hostile(program, folder), selector_lists(program, folder, 30_000)]
+        ran += [small_elements(program, folder), documents(program, folder), hostile(program, folder), selector_lists(program, folder, 30_000)]
         ran += [costs(program, folder), bad_input(program, folder)]
         Path(folder, "list").write_text(filters(10))
         write(Path(folder, "page"), flat_page(20_000))

@@ -1,10 +1,15 @@
 -- How a table and a maker go on agreeing.
-use Rattle.std.proofs.Common.{◌≡◌, ◌↔◌, ℕ, Bool, true, false, List, [], ◌∷◌, ◌++◌, Some, Ok, Err, IsTrue, arith, refl, ap, sym, ◌∙◌}
-use Rattle.std.specs.Result.{IsErrOf}
+use Rattle.std.proofs.Common.{◌≡◌, ◌↔◌, ℕ, Bool, true, false, List, [], ◌∷◌, ◌++◌, Option, Some, is_some, Result, Ok, Err, OnOk, OnErr, IsTrue, arith, refl, ap, sym, ◌∙◌}
+use Rattle.std.specs.Prelude.{IfOk}
+use Rattle.std.specs.Result.{IsErrOf, is_ok}
 use Rattle.std.proofs.lemmas.Grind.{common_steps}
+use Rattle.cos_patterns.specs.declared.errors.PatternError.{PatternError}
+use Rattle.cos_patterns.specs.declared.errors.PatternError.TheVariants.{BadPattern, PatternTooLarge}
+use Rattle.cos_patterns.specs.declared.errors.PatternError.TheVariants as errors
 use Rattle.cos_patterns.specs.declared.written.Asked.{Asked}
 use Rattle.cos_patterns.specs.declared.written.Asked.TheVariants.{Pattern, Address}
 use Rattle.cos_patterns.specs.declared.written.Written.{Written}
+use Rattle.cos_patterns.specs.Makers.{UnlessNoMemory}
 use Rattle.cos_patterns.specs.Written.{is_in, is_same, place_of}
 use Rattle.cos_patterns.specs.Tables.{Noted, Agrees, is_noted, said_of, with_pattern, patterns_in}
 use Rattle.cos_patterns.proofs.Places.{in_more, has_place}
@@ -71,3 +76,24 @@ pub said_behind_patterns : (before : Noted) (patterns large unread : List Writte
     → patterns ≡ before.patterns ++ added ∷ [] → large ≡ before.large → unread ≡ before.unread
     → said_of other (noted_as patterns large unread) ≡ said_of other before
 said_behind_patterns before patterns large unread added other differs p l u = rw (p, l, u, in_others before.patterns added other differs) refl
+
+-- a pattern that has a number is held
+pub is_held : (pattern : Written) (patterns : List Written) (number : ℕ) → place_of pattern patterns ≡ Some number → is_in pattern patterns ≡ true
+is_held pattern patterns number is = sym (has_place pattern patterns) ∙ ap (λ (o : Option ℕ). is_some o) is
+
+-- one that wasn't noted is held exactly where it got a number
+pub held_by : (pattern : Written) (before after : Noted) → is_noted pattern before ≡ false → (result : Result ℕ PatternError) →
+    IfOk result (λ number. place_of pattern after.patterns ≡ Some number) → OnErr result (after.patterns ≡ before.patterns) → is_in pattern after.patterns ≡ is_ok result
+held_by pattern before after new (Ok number) ok err = is_held pattern after.patterns number ok
+held_by pattern before after new (Err error) ok err = ap (is_in pattern) err ∙ (not_noted pattern before new).0
+
+-- what holds for each answer but want of memory
+pub unless_by : (result : Result ℕ PatternError) (P : Type 0) → OnOk result P → (IsErrOf result BadPattern → P) → (IsErrOf result PatternTooLarge → P) → UnlessNoMemory result P
+unless_by (Ok number) P ok bad large = ok
+unless_by (Err BadPattern) P ok bad large = bad refl
+unless_by (Err PatternTooLarge) P ok bad large = large refl
+unless_by (Err errors.NoMemory) P ok bad large = tt
+
+-- a pattern that has a number is noted
+pub held_noted : (pattern : Written) (table : Noted) (number : ℕ) → place_of pattern table.patterns ≡ Some number → is_noted pattern table ≡ false → ⊥
+held_noted pattern table number is new = let no : true ≡ false = sym (is_held pattern table.patterns number is) ∙ (not_noted pattern table new).0 in cc

@@ -148,8 +148,11 @@ impl PatternTable {
         ensures refused { OnErr result (self.new.patterns ≡ self.old.patterns) }
         ensures no_memory { IsErrOf result PatternError.NoMemory → self.new ≡ self.old }
         ensures others { (other : Written) → is_same (written text.now flags) other ≡ false → said_of other self.new ≡ said_of other self.old }
-        ensures asked { UnlessNoMemory result (M.asks maker.old (Asked.Pattern (written text.now flags)) maker.new) }
-        ensures held { is_in (written text.now flags) self.new.patterns ≡ is_ok result }
+        ensures asked { OnOk result (M.asks maker.old (Asked.Pattern (written text.now flags)) maker.new) }
+        ensures asked_bad { IsErrOf result PatternError.BadPattern →
+            M.asks maker.old (Asked.Pattern (written text.now flags)) maker.new }
+        ensures asked_large { IsErrOf result PatternError.PatternTooLarge →
+            M.asks maker.old (Asked.Pattern (written text.now flags)) maker.new }
     {
         let written = Written::of(self.alloc, text, flags)?;
         // A refusal of the maker always finds room for its note.

@@ -1,16 +1,16 @@
 -- The slots with a new node linked in stand for the tree with that node.
-use Rattle.std.proofs.Common.{◌≡◌, ℕ, zero, suc, ◌+◌, ◌<◌, ◌≤◌, List, [], ◌∷◌, ◌++◌, Option, Some, None, true, length, refl, sym, ◌∙◌, ap, subst, inl, inr, arith}
+use Rattle.std.proofs.Common.{◌≡◌, ℕ, ◌+◌, ◌<◌, ◌≤◌, List, [], ◌∷◌, ◌++◌, Option, Some, None, true, length, refl, sym, ◌∙◌, ap, subst, inl, inr, arith}
 use Rattle.std.proofs.Math.ListN.{replicate}
-use Rattle.std.proofs.lemmas.Bool.{cases_lt}
 use Rattle.page_tree.specs.Forest.{Content, Forest, empty, node, Tree, rooted, same, count, size, depth_in, head, tops, find, children}
 use Rattle.page_tree.specs.Edits.{insert_at, with_children, added}
 use Rattle.page_tree.specs.Trees.{MayHave, IsOrdinary}
+use Rattle.page_tree.proofs.Finding.{same_cases}
 use Rattle.dom_arena.specs.declared.table.Slot.{Slot}
 use Rattle.dom_arena.specs.Contents.{may_hold}
 use Rattle.dom_arena.specs.Slots.{free, slot_at, IsUsed, last_behind, cell, put}
 use Rattle.dom_arena.specs.Linked.{Stands, IsArena, tree_of, forest_of, from_place, before_place}
 use Rattle.page_tree.specs.Refusals.{limits_refused}
-use Rattle.dom_arena.proofs.Links.{same_cases, forest_of-linked, stands_used}
+use Rattle.dom_arena.proofs.Links.{forest_of-linked, stands_used}
 use Rattle.dom_arena.proofs.Depths.{depth_known}
 use Rattle.dom_arena.proofs.Limits.{limits_allow}
 use Rattle.dom_arena.proofs.Placed.{StandsBeside, Stands-placed_by, total as all_counted, size_nodes as all_sized}

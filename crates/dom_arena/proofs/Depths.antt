@@ -1,15 +1,15 @@
 -- The depth of a node, along its parents.
-use Rattle.std.proofs.Common.{◌≡◌, ℕ, suc, ◌+◌, ◌<◌, ◌≤◌, max, List, Option, Some, None, refl, ◌∙◌, ap, inl, inr, ◌⊎◌, arith}
+use Rattle.std.proofs.Common.{◌≡◌, ℕ, suc, ◌<◌, ◌≤◌, List, Option, Some, refl, ◌∙◌, ap, inl, inr, ◌⊎◌, arith}
 use Rattle.std.proofs.lemmas.Bool.{cases_eq}
 use Rattle.std.specs.Prelude.{unwrap_or}
-use Rattle.page_tree.specs.Forest.{Forest, empty, node, rooted, count, or_some, depth_in, height}
+use Rattle.page_tree.specs.Forest.{Forest, empty, node, rooted, count, depth_in}
+use Rattle.page_tree.proofs.Finding.{same_cases, same-same, same-eq}
+use Rattle.page_tree.proofs.Depths.{depth_in-none}
 use Rattle.dom_arena.specs.declared.table.Slot.{Slot}
 use Rattle.dom_arena.specs.Slots.{slot_at, IsUsed}
 use Rattle.dom_arena.specs.Linked.{Linked, Stands}
-use Rattle.dom_arena.proofs.Links.{same_cases, stands_used}
-use Rattle.dom_arena.proofs.Siblings.{same-same, same-eq}
+use Rattle.dom_arena.proofs.Links.{stands_used}
 use Rattle.dom_arena.proofs.Family.{counted_used}
-use Rattle.dom_arena.proofs.Heights.{depth_in-none}
 
 -- a node is at the top, or one deeper than its parent
 pub depth_step : (s : ℕ → Slot) (k : ℕ) (f : Forest) (p b d : ℕ) → Linked s p b f → ((j : ℕ) → count j f ≤ 1) → count p f ≡ 0 → 0 < count k f
@@ -54,20 +54,6 @@ depth_step s k (node n c kids later) p b d l once np h =
       | inl q ↦ absurd (omega (arith, once j))
       | inr q ↦ rw q.2 (rw x refl)
     ]
-
--- no node is deeper than the forest is high
-pub depth_in-height : (k d e : ℕ) (f : Forest) → depth_in k d f ≡ Some e → e < d + height f
-depth_in-height k d e empty h = cc
-depth_in-height k d e (node n c kids later) h =
-    elim (same_cases k n) [
-      | inl q ↦ let x : Some d ≡ Some e = rw q.2 at h in let y : d ≡ e = cc (x) in omega arith
-      | inr q ↦ by_part (λ m. depth_in-height k (suc d) m kids) (depth_in-height k d e later) (depth_in k (suc d) kids) refl (rw q.2 at h)
-    ]
-  where
-    by_part : ((m : ℕ) → depth_in k (suc d) kids ≡ Some m → m < suc d + height kids) → (depth_in k d later ≡ Some e → e < d + height later)
-        → (o : Option ℕ) → depth_in k (suc d) kids ≡ o → or_some o (depth_in k d later) ≡ Some e → e < d + max (suc (height kids)) (height later)
-    by_part below behind None x y = omega (arith, behind y)
-    by_part below behind (Some m) x y = let z : m ≡ e = cc (y) in omega (arith, below m x)
 
 module _ (slots : List Slot) (f : Forest) (stands : Stands slots f) where
   -- one step up from a node

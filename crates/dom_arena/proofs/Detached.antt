@@ -2,21 +2,23 @@
 use Rattle.std.proofs.Common.{◌≡◌, ℕ, suc, ◌+◌, ◌<◌, ◌≤◌, List, length, refl, sym, ◌∙◌, ap, subst, inl, inr, arith, length-set}
 use Rattle.std.proofs.lemmas.Bool.{cases_eq, ne_eqb}
 use Rattle.page_tree.specs.Forest.{Forest, empty, node, rooted, same, count, size, head, find, children}
-use Rattle.page_tree.specs.Edits.{with_children, without}
+use Rattle.page_tree.specs.Edits.{without, alone, subtree}
+use Rattle.page_tree.specs.Trees.{IsTree, MayHave, AreOrdinary}
+use Rattle.page_tree.proofs.Totals.{count-without, size-without}
+use Rattle.page_tree.proofs.Keeps.{Named, Every-find, Every-children, IsTree-detached}
+use Rattle.page_tree.proofs.Finding.{find-rooted, same_cases, count-find, count-parts, same-eq, counted_apart}
 use Rattle.dom_arena.specs.declared.table.Slot.{Slot}
 use Rattle.dom_arena.specs.Slots.{free, slot_at, IsUsed, last, with_link, past}
 use Rattle.dom_arena.specs.Linked.{Linked, Stands, forest_of}
 use Rattle.dom_arena.specs.Numbering.{cleared}
 use Rattle.dom_arena.specs.Parts.{part_from, HoldPart, AreCleared}
-use Rattle.dom_arena.proofs.Links.{same_cases, forest_of-linked, count-find, count-parts, stands_used, IsCell, IsCell-find}
-use Rattle.dom_arena.proofs.Siblings.{same-eq, counted_apart, Linked-frame}
+use Rattle.dom_arena.proofs.Links.{forest_of-linked, stands_used, IsCell, IsCell-find}
+use Rattle.dom_arena.proofs.Siblings.{Linked-frame}
 use Rattle.dom_arena.proofs.Grafts.{Linked-rooted, slot_at-set_other}
 use Rattle.dom_arena.proofs.Family.{Family, family_of}
-use Rattle.dom_arena.proofs.Ordinary.{ordinary_below, grown_below}
 use Rattle.dom_arena.proofs.Parting.{part_from-linked, free_at}
 use Rattle.dom_arena.proofs.Placed.{StandsBeside}
 use Rattle.dom_arena.proofs.Unlinked.{count_tops, count_tops-le, count_tops-below, parent_top, AreBeside, beside, first_without, last_without, Linked-without, IsChild, child_of}
-use Rattle.dom_arena.proofs.Without.{count-without, size-without, height-without, IsGrown-without, AreOrdinary-without}
 use Rattle.dom_arena.proofs.Writes.{length-with_link, length-with_back_link, linked_kept, linked_parent, linked_before, linked_after}
 
 -- links from one number lead through one forest
@@ -28,6 +30,11 @@ linked_unique s f g p b p' b' l l' e z z' =
 pub kids_of_cell : (s : ℕ → Slot) (k : ℕ) (g : Forest) → IsCell s k g → ((s k).first_child ≡ head (children g)) × Linked s k 0 (children g)
 kids_of_cell s k empty c = absurd c
 kids_of_cell s k (node n c kids later) h = (h.1, h.4)
+
+-- how many nodes a node is with those below it
+part_counts : (s : ℕ → Slot) (k j : ℕ) (g : Forest) → IsCell s k g → (count j (alone g) ≡ same j k + count j (children g)) × (size (alone g) ≡ suc (size (children g)))
+part_counts s k j empty c = absurd c
+part_counts s k j (node n c kids later) h = (omega (arith, ap (same j) h.0), omega arith)
 
 -- the document stays
 pub without-rooted : (k : ℕ) (f : Forest) → (k ≡ 0 → ⊥) → without k (rooted f) ≡ rooted (without k f)
@@ -161,15 +168,16 @@ module _ (slots : List Slot) (f : Forest) (stands : Stands slots f) (k : ℕ) (u
       (λ ne. counted_apart j b under h (omega (arith, apart_under b, before_top ne, fam.once b)))
       (λ ne. counted_apart j a under h (omega (arith, apart_under a, after_top ne, fam.once a)))) own.linked
 
+  -- the part that goes
+  of_part : (j : ℕ) → (count j (subtree k (rooted f)) ≡ same j k + count j under) × (size (subtree k (rooted f)) ≡ suc (size under))
+  of_part j = part_counts (slot_at slots) k j (find k (rooted f)) (IsCell-find (slot_at slots) k (rooted f) 0 0 stands.linked (omega (arith, counted)))
+
   -- what stays and what goes make up the tree
   pub total : (j : ℕ) → count j (rooted (without k f)) + (same j k + count j under) ≡ count j (rooted f)
-  total j = subst (λ (g : Forest). count j g + (same j k + count j under) ≡ count j (rooted f)) (without-rooted k f nz) (count-without j k (rooted f) counted)
+  total j = omega (arith, count-without j k (rooted f) (omega (arith, counted)), ap (count j) (without-rooted k f nz), (of_part j).0)
 
   pub sizes : size (without k f) + suc (size under) ≡ size f
-  sizes =
-      let e : size (rooted (without k f)) + suc (size under) ≡ size (rooted f) =
-      subst (λ (g : Forest). size g + suc (size under) ≡ size (rooted f)) (without-rooted k f nz) (size-without k (rooted f) counted) in
-      omega (arith, e)
+  sizes = omega (arith, size-without k (rooted f) (omega (arith, counted)), ap size (without-rooted k f nz), (of_part 0).1)
 
   pub length_made : length made ≡ length slots
   length_made = length-with_back_link b q a (with_link a q b slots) ∙ length-with_link a q b slots
@@ -184,19 +192,12 @@ module _ (slots : List Slot) (f : Forest) (stands : Stands slots f) (k : ℕ) (u
         (λ ne e. counted_apart b j (rooted f) (before_counted ne) gone (sym e))
         (λ ne e. counted_apart a j (rooted f) (after_counted ne) gone (sym e))
         ∙ stands.others j gone;
-    tree = record {
-      once = λ j. omega (arith, total j, stands.tree.once j);
-      below = λ j h. omega (arith, total j, stands.tree.below j (omega (arith, length_made)));
-      grown = IsGrown-without k f stands.tree.grown;
-      ordinary = AreOrdinary-without k f stands.tree.ordinary;
-      few = omega (arith, sizes, stands.tree.few);
-      low = omega (arith, height-without k f, stands.tree.low);
-    };
+    tree = subst (λ (n : ℕ). IsTree (record { nodes = without k f; next = n })) (sym length_made) (IsTree-detached (record { nodes = f; next = length slots }) stands.tree k);
     held = held;
     apart = λ j. omega (arith, total j, stands.tree.once j);
     inside = λ j h. omega (arith, total j, stands.tree.below j (omega (arith, length_made)));
-    grown = grown_below k f stands.tree.grown;
-    ordinary = ordinary_below k f stands.tree.ordinary;
+    grown = Every-children MayHave (find k (rooted f)) (Every-find MayHave k (rooted f) (tt, stands.tree.grown, tt));
+    ordinary = subst (λ (g : Forest). AreOrdinary (children g)) (sym (find-rooted k f nz)) (Every-children Named (find k f) (Every-find Named k f stands.tree.ordinary));
     fits = omega (arith, sizes, stands.fits, length_made);
   }
 

@@ -3,11 +3,12 @@ use Rattle.std.proofs.Common.{◌≡◌, ℕ, ◌<◌, ◌≤◌, List, length, 
 use Rattle.std.proofs.lemmas.Bool.{cases_lt}
 use Rattle.page_tree.specs.Forest.{Forest, empty, node, rooted, count, head, find, children}
 use Rattle.page_tree.specs.Trees.{IsTree}
+use Rattle.page_tree.proofs.Finding.{count-find, count-parts, same-eq}
 use Rattle.dom_arena.specs.declared.table.Slot.{Slot}
 use Rattle.dom_arena.specs.Slots.{slot_at, IsUsed, last}
 use Rattle.dom_arena.specs.Linked.{Linked, Stands, from_place, before_place}
-use Rattle.dom_arena.proofs.Links.{IsCell, IsCell-find, count-find, count-parts, no_zero, payload_of-used, stands_used}
-use Rattle.dom_arena.proofs.Siblings.{same-eq, before_place-in, from_place-in}
+use Rattle.dom_arena.proofs.Links.{IsCell, IsCell-find, no_zero, payload_of-used, stands_used}
+use Rattle.dom_arena.proofs.Siblings.{before_place-in, from_place-in}
 
 pub record Family (slots : List Slot) (p : ℕ) (kids : Forest) : Type 0 where
   pub linked : Linked (slot_at slots) p 0 kids

@@ -6,6 +6,8 @@ use Rattle.std.proofs.lemmas.List.{length-map}
 use Rattle.page_tree.specs.Forest.{Content, Forest, empty, node, Tree, rooted, count, size, depth_in, head, tops, find, children}
 use Rattle.page_tree.specs.Edits.{insert_at, with_children}
 use Rattle.page_tree.specs.Fragments.{hung, with_nodes_at, fragment_nodes, with_fragment, AreNodesFrom, IsFragment, limit_passed}
+use Rattle.page_tree.proofs.Finding.{same_cases, find-none, or_else-empty}
+use Rattle.page_tree.proofs.Totals.{with_children-none, size-joined}
 use Rattle.dom_arena.specs.declared.fragments.Tail.{Tail}
 use Rattle.dom_arena.specs.declared.kinds.NewNode.{NewNode}
 use Rattle.dom_arena.specs.declared.table.Slot.{Slot}
@@ -14,8 +16,6 @@ use Rattle.dom_arena.specs.Hanging.{CanHang, parent_behind, hung_in, tail_behind
 use Rattle.dom_arena.specs.Slots.{free, slot_at, IsUsed}
 use Rattle.dom_arena.specs.Linked.{Stands, IsArena, tree_of, before_place, from_place}
 use Rattle.page_tree.specs.Refusals.{limits_refused}
-use Rattle.dom_arena.proofs.Links.{same_cases, find-none, or_else-empty}
-use Rattle.dom_arena.proofs.Grafts.{with_children-none, size-joined}
 use Rattle.dom_arena.proofs.Writes.{slot_at-free, length-free, Stands-free}
 use Rattle.dom_arena.proofs.Added.{tree_of-stands, Stands-viewed}
 use Rattle.dom_arena.proofs.Limits.{none_passed}

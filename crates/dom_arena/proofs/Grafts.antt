@@ -1,16 +1,13 @@
 -- New children of a node, in the forest and in the slots.
-use Rattle.std.proofs.Common.{◌≡◌, ℕ, zero, suc, ◌+◌, ◌<◌, ◌≤◌, List, length, set, refl, sym, ◌∙◌, ap, subst, inl, inr, arith}
+use Rattle.std.proofs.Common.{◌≡◌, ℕ, zero, suc, ◌<◌, ◌≤◌, List, length, set, refl, sym, ◌∙◌, ap, subst, inl, inr, arith}
 use Rattle.std.proofs.lemmas.Bool.{cases_eq}
 use Rattle.std.proofs.lemmas.List.{get_or-set_same, get_or-set_other}
-use Rattle.page_tree.specs.Forest.{Content, document, element, text, comment, Forest, empty, node, rooted, count, size, head, tops, find, or_else, children}
-use Rattle.page_tree.specs.Edits.{joined, insert_at, with_children}
-use Rattle.page_tree.specs.Trees.{MayHave, IsGrown}
+use Rattle.page_tree.specs.Forest.{Content, document, Forest, empty, node, rooted, count, head, tops}
+use Rattle.page_tree.specs.Edits.{with_children}
+use Rattle.page_tree.proofs.Finding.{same_cases, same-same, same-eq}
 use Rattle.dom_arena.specs.declared.table.Slot.{Slot}
-use Rattle.dom_arena.specs.Contents.{payload_of}
 use Rattle.dom_arena.specs.Slots.{free, cell, slot_at, last_behind, last}
 use Rattle.dom_arena.specs.Linked.{Linked, from_place, before_place}
-use Rattle.dom_arena.proofs.Links.{same_cases, find-none, IsCell, IsCell-find}
-use Rattle.dom_arena.proofs.Siblings.{same-same, same-eq}
 
 -- new children below change neither the first number nor the last
 pub head-with_children : (p : ℕ) (g f : Forest) → head (with_children p g f) ≡ head f
@@ -25,106 +22,6 @@ last_behind-with_children p b g (node n c kids later) = last_behind-with_childre
 -- new children further below change no slot of a node
 cell-with_children : (p : ℕ) (g : Forest) (parent : ℕ) (kids : Forest) (next previous : ℕ) (c : Content) → cell parent (with_children p g kids) next previous c ≡ cell parent kids next previous c
 cell-with_children p g parent kids next previous c = rw (head-with_children p g kids, last_behind-with_children p 0 g kids) refl
-
--- where p is no node nothing changes
-pub with_children-none : (p : ℕ) (g f : Forest) → count p f ≡ 0 → with_children p g f ≡ f
-with_children-none p g empty h = refl
-with_children-none p g (node n c kids later) h =
-    elim (same_cases p n) [
-      | inl q ↦ absurd (omega arith)
-      | inr q ↦ rw (q.2, with_children-none p g kids (omega arith), with_children-none p g later (omega arith)) refl
-    ]
-
--- what was found is not looked for further on
-pub find-some : (s : ℕ → Slot) (k : ℕ) (f g : Forest) → IsCell s k f → or_else f g ≡ f
-find-some s k empty g h = absurd h
-find-some s k (node n c kids later) g h = refl
-
--- what is counted below and beside a new list of children
-pub count-with_children : (s : ℕ → Slot) (k p : ℕ) (g f : Forest) (parent previous : ℕ) → Linked s parent previous f → count p f ≡ 1
-    → count k (with_children p g f) + count k (children (find p f)) ≡ count k f + count k g
-count-with_children s k p g empty parent previous l h = absurd (omega arith)
-count-with_children s k p g (node n c kids later) parent previous l h =
-    elim (same_cases p n) [
-      | inl q ↦ rw (q.2, with_children-none p g later (omega arith)) (omega arith)
-      | inr q ↦ elim (cases_eq (count p kids) 0) [
-        | inl z ↦ rw (q.2, find-none p kids z, with_children-none p g kids z) (omega (arith, count-with_children s k p g later parent n l.2 (omega arith)))
-        | inr z ↦
-            rw (q.2, find-some s p (find p kids) (find p later) (IsCell-find s p kids n 0 l.1 (omega arith)), with_children-none p g later (omega arith))
-            (omega (arith, count-with_children s k p g kids n 0 l.1 (omega arith)))
-      ]
-    ]
-
--- how often a number stands in joined forests
-pub count-joined : (k : ℕ) (f g : Forest) → count k (joined f g) ≡ count k f + count k g
-count-joined k empty g = omega arith
-count-joined k (node n c kids later) g = omega (arith, count-joined k later g)
-
--- how often a number stands after an insertion
-pub count-insert : (k i : ℕ) (new f : Forest) → count k (insert_at i new f) ≡ count k new + count k f
-count-insert k i new empty = omega arith
-count-insert k zero new (node n c kids later) = count-joined k new (node n c kids later)
-count-insert k (suc i) new (node n c kids later) = omega (arith, count-insert k i new later)
-
--- the size of joined forests
-pub size-joined : (f g : Forest) → size (joined f g) ≡ size f + size g
-size-joined empty g = omega arith
-size-joined (node n c kids later) g = omega (arith, size-joined later g)
-
--- the size after an insertion
-pub size-insert : (i : ℕ) (new f : Forest) → size (insert_at i new f) ≡ size new + size f
-size-insert i new empty = omega arith
-size-insert zero new (node n c kids later) = size-joined new (node n c kids later)
-size-insert (suc i) new (node n c kids later) = omega (arith, size-insert i new later)
-
--- the size with new children in place of others
-pub size-with_children : (s : ℕ → Slot) (p : ℕ) (g f : Forest) (parent previous : ℕ) → Linked s parent previous f → count p f ≡ 1
-    → size (with_children p g f) + size (children (find p f)) ≡ size f + size g
-size-with_children s p g empty parent previous l h = absurd (omega arith)
-size-with_children s p g (node n c kids later) parent previous l h =
-    elim (same_cases p n) [
-      | inl q ↦ rw (q.2, with_children-none p g later (omega arith)) (omega arith)
-      | inr q ↦ elim (cases_eq (count p kids) 0) [
-        | inl z ↦ rw (q.2, find-none p kids z, with_children-none p g kids z) (omega (arith, size-with_children s p g later parent n l.2 (omega arith)))
-        | inr z ↦
-            rw (q.2, find-some s p (find p kids) (find p later) (IsCell-find s p kids n 0 l.1 (omega arith)), with_children-none p g later (omega arith))
-            (omega (arith, size-with_children s p g kids n 0 l.1 (omega arith)))
-      ]
-    ]
-
--- only elements have children, in joined forests too
-IsGrown-joined : (f g : Forest) → IsGrown f → IsGrown g → IsGrown (joined f g)
-IsGrown-joined empty g a b = b
-IsGrown-joined (node n c kids later) g a b = (a.0, a.1, IsGrown-joined later g a.2 b)
-
--- only elements have children after an insertion
-pub IsGrown-insert : (i : ℕ) (new f : Forest) → IsGrown new → IsGrown f → IsGrown (insert_at i new f)
-IsGrown-insert i new empty a b = a
-IsGrown-insert zero new (node n c kids later) a b = IsGrown-joined new (node n c kids later) a b
-IsGrown-insert (suc i) new (node n c kids later) a b = (b.0, b.1, IsGrown-insert i new later a b.2)
-
--- what has no children gets none further below
-MayHave-with_children : (c : Content) (p : ℕ) (g kids : Forest) → MayHave c kids → MayHave c (with_children p g kids)
-MayHave-with_children document p g kids h = tt
-MayHave-with_children (element name attrs) p g kids h = tt
-MayHave-with_children (text bytes) p g kids h = rw h refl
-MayHave-with_children (comment bytes) p g kids h = rw h refl
-
--- only elements have children where a node that may have them gets new ones
-pub IsGrown-with_children : (s : ℕ → Slot) (p : ℕ) (g f : Forest) (parent previous : ℕ) → Linked s parent previous f
-    → ((c : Content) → payload_of c ≡ (s p).payload → MayHave c g) → IsGrown g → IsGrown f → IsGrown (with_children p g f)
-IsGrown-with_children s p g empty parent previous l may a b = tt
-IsGrown-with_children s p g (node n c kids later) parent previous l may a b =
-    elim (same_cases p n) [
-      | inl q ↦
-          let e : payload_of c ≡ (s p).payload = rw q.0 (ap (λ (x : Slot). x.payload) (sym l.0)) in
-          rw q.2 (may c e, a, IsGrown-with_children s p g later parent n l.2 may a b.2)
-      | inr q ↦ rw q.2 (
-        MayHave-with_children c p g kids b.0,
-        IsGrown-with_children s p g kids n 0 l.1 may a b.1,
-        IsGrown-with_children s p g later parent n l.2 may a b.2,
-      )
-    ]
 
 -- slots that differ in a node's first child, and hold its new children
 pub Linked-with_children : (s s' : ℕ → Slot) (p : ℕ) (g f : Forest) (parent previous : ℕ) → Linked s parent previous f → (parent ≡ p → ⊥)

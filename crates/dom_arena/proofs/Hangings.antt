@@ -6,22 +6,24 @@ use Rattle.page_tree.specs.Forest.{Content, document, element, text, comment, Fo
 use Rattle.page_tree.specs.Edits.{joined, insert_at, with_children, grafted}
 use Rattle.page_tree.specs.Fragments.{hung, with_nodes_at, deepest_behind, AreNodesFrom, limit_passed}
 use Rattle.page_tree.specs.Trees.{MayHave, IsOrdinary}
+use Rattle.page_tree.proofs.Finding.{same_cases, count-find, count-parts, same-eq}
+use Rattle.page_tree.proofs.Totals.{count-with_children, count-insert}
+use Rattle.page_tree.proofs.Regrafts.{with_children-again, children-given, find-given, with_children-given, children-inserted, with_children-inserted, insert-behind, insert-end}
+use Rattle.page_tree.proofs.Depths.{depth_in-given}
+use Rattle.page_tree.proofs.Fragments.{limits_kept}
 use Rattle.dom_arena.specs.declared.fragments.Tail.{Tail}
 use Rattle.dom_arena.specs.declared.table.Slot.{Slot}
 use Rattle.dom_arena.specs.Contents.{payload_of, may_hold}
 use Rattle.dom_arena.specs.Hanging.{CanHang, parent_behind, sibling_before, sibling_after, hung_in, tail_behind}
 use Rattle.dom_arena.specs.Slots.{slot_at, IsUsed, last_behind, cell, climbed, put}
 use Rattle.dom_arena.specs.Linked.{Linked, Stands, from_place, before_place}
-use Rattle.dom_arena.proofs.Links.{same_cases, count-find, count-parts, stands_used}
-use Rattle.dom_arena.proofs.Siblings.{same-eq}
-use Rattle.dom_arena.proofs.Grafts.{count-with_children, count-insert}
+use Rattle.dom_arena.proofs.Links.{stands_used}
 use Rattle.dom_arena.proofs.Family.{Family, family, before_used, after_used}
 use Rattle.dom_arena.proofs.Depths.{depth_up}
 use Rattle.dom_arena.proofs.Writes.{payload-put, length-placed}
 use Rattle.dom_arena.proofs.Added.{Stands-put, total, size_nodes, before_place-end, from_place-end}
-use Rattle.dom_arena.proofs.Regrafts.{with_children-again, children-given, find-given, with_children-given, depth_in-given, children-inserted, with_children-inserted, insert-behind, before-behind, from-behind, tops-inserted, insert-end}
+use Rattle.dom_arena.proofs.Regrafts.{before-behind, from-behind, tops-inserted}
 use Rattle.dom_arena.proofs.Ways.{OnWay, way_at, Under, Under-linked, Under-insert, OnWay-less, way_counts, way_parent, way_holds, climbed-way, hangs, OnWay-hung, way_at-hung, OnWay-more, way_at-more, last_top-joined, last_top-hung}
-use Rattle.dom_arena.proofs.Limits.{limits_kept}
 
 -- what may have children is a node
 holds_used : (slots : List Slot) (k : ℕ) → may_hold (slot_at slots k).payload ≡ true → IsUsed slots k
@@ -100,7 +102,7 @@ module _ (slots0 : List Slot) (f : Forest) (stands0 : Stands slots0 f) (p place 
 
   -- each number stands as often as in both
   counts : (k : ℕ) (g : Forest) → count k (rooted (now g)) ≡ count k (rooted f) + count k g
-  counts k g = omega (arith, count-with_children (slot_at slots0) k p (insert_at place g kids) (rooted f) 0 0 stands0.linked p_counted, count-insert k place g kids)
+  counts k g = omega (arith, count-with_children k p (insert_at place g kids) (rooted f) p_counted, count-insert k place g kids)
 
   -- the children of p
   kids_now : (g : Forest) → children (find p (rooted (now g))) ≡ insert_at place g kids

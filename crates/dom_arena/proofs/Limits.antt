@@ -1,28 +1,13 @@
 -- The limits that the nodes of a fragment keep, one after the other.
-use Rattle.std.proofs.Common.{◌≡◌, ℕ, suc, ◌+◌, ◌-◌, ◌<◌, ◌≤◌, List, [], ◌∷◌, Option, Some, None, refl, sym, ◌∙◌, ap, inl, inr, arith}
-use Rattle.std.proofs.lemmas.Bool.{cases_lt, le-ltb, lt-ltb, lt-leb, le-leb}
+use Rattle.std.proofs.Common.{◌≡◌, ℕ, suc, ◌+◌, ◌-◌, ◌<◌, ◌≤◌, List, [], ◌∷◌, Option, Some, None, refl, sym, ◌∙◌, ap, arith}
+use Rattle.std.proofs.lemmas.Bool.{le-ltb, lt-ltb, lt-leb, le-leb}
 use Rattle.std.specs.Prelude.{option_map}
 use Rattle.page_tree.specs.Forest.{Content}
 use Rattle.page_tree.specs.Fragments.{Limit, limit_passed}
 use Rattle.page_tree.specs.Refusals.{past_limit, limits_refused}
+use Rattle.page_tree.proofs.Fragments.{limits_step, limits_kept}
 use Rattle.dom_arena.specs.declared.refusals.DomError.TheVariants.{TooDeep, TooManyNodes}
 use Rattle.dom_arena.specs.Refusals.{error_of}
-
--- a node that keeps both leaves it to the others
-pub limits_step : (depth live : ℕ) (x : ℕ × Content) (part : List (ℕ × Content)) → depth + suc x.0 ≤ 512 → live < 1000000 → limit_passed depth live (x ∷ part) ≡ limit_passed depth (suc live) part
-limits_step depth live x part deep few = rw (le-ltb 512 (depth + suc x.0) deep, lt-leb 1000000 live few) refl
-
--- where none is passed the first node keeps both
-pub limits_kept : (depth live : ℕ) (x : ℕ × Content) (part : List (ℕ × Content)) → limit_passed depth live (x ∷ part) ≡ None
-    → (depth + suc x.0 ≤ 512) × (live < 1000000) × (limit_passed depth (suc live) part ≡ None)
-limits_kept depth live x part h =
-    elim (cases_lt 512 (depth + suc x.0)) [
-      | inl lt ↦ let e = rw (lt-ltb 512 (depth + suc x.0) lt) at h in cc
-      | inr deep ↦ elim (cases_lt live 1000000) [
-        | inl few ↦ (deep, few, sym (limits_step depth live x part deep few) ∙ h)
-        | inr le ↦ let e = rw (le-ltb 512 (depth + suc x.0) deep, le-leb 1000000 live le) at h in cc
-      ]
-    ]
 
 -- the refusal goes on with the others
 pub part_step : (o : Option ℕ) (depth live : ℕ) (x : ℕ × Content) (part : List (ℕ × Content)) → o ≡ Some depth → x.0 < 512 - depth → live < 1000000

@@ -1,8 +1,11 @@
 -- What the slots that stand for a forest say of a node of it.
-use Rattle.std.proofs.Common.{◌≡◌, ℕ, zero, suc, ◌+◌, ◌<◌, ◌≤◌, cond, eqb, true, false, List, Option, Some, None, length, refl, sym, ◌∙◌, ap, subst, inl, inr, ◌⊎◌, arith}
-use Rattle.std.proofs.lemmas.Bool.{cases_eq, cases_lt, eq-eqb, ne_eqb}
+use Rattle.std.proofs.Common.{◌≡◌, ℕ, zero, suc, ◌<◌, ◌≤◌, cond, List, Some, None, length, refl, sym, ◌∙◌, ap, subst, inl, inr, arith}
+use Rattle.std.proofs.lemmas.Bool.{cases_eq, cases_lt, ne_eqb}
 use Rattle.std.proofs.lemmas.List.{get_or_past}
-use Rattle.page_tree.specs.Forest.{Content, document, element, text, comment, Forest, empty, node, rooted, same, count, size, head, first, find, or_else, children, later_of, content, or_some, parent_in, previous_in}
+use Rattle.page_tree.specs.Forest.{Content, document, element, text, comment, Forest, empty, node, rooted, count, size, head, first, find, or_else, children, later_of, content, parent_in, previous_in}
+use Rattle.page_tree.proofs.Finding.{same_cases, find-none, or_else-empty, count-find, count-parts}
+use Rattle.page_tree.proofs.Depths.{or_none}
+use Rattle.page_tree.proofs.Around.{parent_in-none, previous_in-none}
 use Rattle.dom_arena.specs.declared.table.Slot.{Slot}
 use Rattle.dom_arena.specs.declared.kinds.Payload.TheVariants.{Free}
 use Rattle.dom_arena.specs.Contents.{payload_of, content_of}
@@ -23,14 +26,6 @@ payload_of-used (element name attrs) h = cc
 payload_of-used (text bytes) h = cc
 payload_of-used (comment bytes) h = cc
 
--- two numbers are equal or not, with what the tests say
-pub same_cases : (k n : ℕ) → ((k ≡ n) × (same k n ≡ 1) × (eqb k n ≡ true)) ⊎ ((k ≡ n → ⊥) × (same k n ≡ 0) × (eqb k n ≡ false))
-same_cases k n =
-    elim (cases_eq k n) [
-      | inl e ↦ inl (e, ap (λ b. cond b 1 0) (eq-eqb k n e), eq-eqb k n e)
-      | inr e ↦ inr (e, ap (λ b. cond b 1 0) (ne_eqb k n e), ne_eqb k n e)
-    ]
-
 -- following the links gives the forest back
 pub forest_of-linked : (s : ℕ → Slot) (f : Forest) (fuel parent previous : ℕ) → Linked s parent previous f → count 0 f ≡ 0 → size f ≤ fuel → forest_of fuel s (head f) ≡ f
 forest_of-linked s empty zero parent previous l z h = refl
@@ -41,15 +36,6 @@ forest_of-linked s (node (suc n) c kids later) (suc fuel) parent previous l z h 
     let below : forest_of fuel s (head kids) ≡ kids = forest_of-linked s kids fuel (suc n) 0 l.1 (omega arith) (omega arith) in
     let behind : forest_of fuel s (head later) ≡ later = forest_of-linked s later fuel parent (suc n) l.2 (omega arith) (omega arith) in
     rw (l.0, content_of-payload_of c, below, behind) refl
-
--- what is no node is not found
-pub find-none : (k : ℕ) (f : Forest) → count k f ≡ 0 → find k f ≡ empty
-find-none k empty h = refl
-find-none k (node n c kids later) h =
-    elim (same_cases k n) [
-      | inl p ↦ absurd (omega arith)
-      | inr p ↦ rw (p.2, find-none k kids (omega arith)) (find-none k later (omega arith))
-    ]
 
 -- what the slot of a node says of it
 abbrev pub IsCell : (ℕ → Slot) → ℕ → Forest → Type 0
@@ -76,15 +62,6 @@ IsCell-find s k (node n c kids later) parent previous l h =
       ])
     ]
 
--- what is no node has no parent
-pub parent_in-none : (k parent : ℕ) (f : Forest) → count k f ≡ 0 → parent_in k parent f ≡ None
-parent_in-none k parent empty h = refl
-parent_in-none k parent (node n c kids later) h =
-    elim (same_cases k n) [
-      | inl p ↦ absurd (omega arith)
-      | inr p ↦ rw (p.2, parent_in-none k n kids (omega arith)) (parent_in-none k parent later (omega arith))
-    ]
-
 -- the slot of a node knows its parent
 pub parent_in-linked : (s : ℕ → Slot) (k : ℕ) (f : Forest) (parent previous : ℕ) → Linked s parent previous f → 0 < count k f → parent_in k parent f ≡ Some (s k).parent
 parent_in-linked s k empty parent previous l h = absurd (omega arith)
@@ -99,37 +76,11 @@ parent_in-linked s k (node n c kids later) parent previous l h =
       ])
     ]
 
--- what was found holds no number more often
-pub count-find : (j k : ℕ) (f : Forest) → count j (find k f) ≤ count j f
-count-find j k empty = omega arith
-count-find j k (node n c kids later) =
-    elim (same_cases k n) [
-      | inl p ↦ rw p.2 (omega arith)
-      | inr p ↦ rw p.2 (elim (cases_eq (count k kids) 0) [
-        | inl z ↦ rw (find-none k kids z) (omega (arith, count-find j k later))
-        | inr z ↦ count_or_else (find k kids) (find k later) (count-find j k kids) (count-find j k later)
-      ])
-    ]
-  where
-    count_or_else : (f g : Forest) → count j f ≤ count j kids → count j g ≤ count j later → count j (or_else f g) ≤ same j n + (count j kids + count j later)
-    count_or_else empty g a b = omega arith
-    count_or_else (node m d ks ls) g a b = omega arith
-
 -- a link to the first sibling
 pub first-head : (f : Forest) → count 0 f ≡ 0 → number_of (head f) ≡ first f
 first-head empty h = refl
 first-head (node zero c kids later) h = absurd (omega arith)
 first-head (node (suc n) c kids later) h = ap (λ b. cond b None (Some (suc n))) (ne_eqb (suc n) 0 (λ e. omega arith))
-
--- nothing further on
-pub or_else-empty : (f : Forest) → or_else f empty ≡ f
-or_else-empty empty = refl
-or_else-empty (node n c kids later) = refl
-
--- children and later siblings are parts of what was found
-pub count-parts : (j : ℕ) (f : Forest) → count j (children f) + count j (later_of f) ≤ count j f
-count-parts j empty = omega arith
-count-parts j (node n c kids later) = omega arith
 
 -- no child and no sibling is the document
 pub no_zero : (k : ℕ) (f : Forest) → count 0 (rooted f) ≤ 1 → (count 0 (children (find k (rooted f))) ≡ 0) × (count 0 (later_of (find k (rooted f))) ≡ 0)
@@ -137,20 +88,6 @@ no_zero k f h =
     elim (same_cases k 0) [
       | inl p ↦ rw p.2 (omega arith, refl)
       | inr p ↦ rw (p.2, or_else-empty) (omega (arith, count-parts 0 (find k f), count-find 0 k f), omega (arith, count-parts 0 (find k f), count-find 0 k f))
-    ]
-
--- no second choice
-pub or_none : (o : Option ℕ) → or_some o None ≡ o
-or_none None = refl
-or_none (Some x) = refl
-
--- what is no node has no sibling before it
-previous_in-none : (k before : ℕ) (f : Forest) → count k f ≡ 0 → previous_in k before f ≡ None
-previous_in-none k before empty h = refl
-previous_in-none k before (node n c kids later) h =
-    elim (same_cases k n) [
-      | inl p ↦ absurd (omega arith)
-      | inr p ↦ rw (p.2, previous_in-none k 0 kids (omega arith)) (previous_in-none k n later (omega arith))
     ]
 
 -- the slot of a node knows the sibling before it

@@ -1,30 +1,28 @@
 -- A node moved with all that is below it: where it may go, and what the slots stand for then.
-use Rattle.std.proofs.Common.{◌≡◌, ℕ, suc, ◌+◌, ◌<◌, ◌≤◌, List, Some, None, true, false, length, refl, sym, ◌∙◌, ap, subst, inl, inr, ◌⊎◌, arith}
-use Rattle.std.proofs.lemmas.Bool.{cases_eq, ne_eqb}
-use Rattle.page_tree.specs.Forest.{Content, document, Forest, empty, node, Tree, rooted, same, count, size, height, head, tops, find, or_else, children, depth_in}
+use Rattle.std.proofs.Common.{◌≡◌, ℕ, suc, ◌+◌, ◌<◌, ◌≤◌, List, Some, true, length, refl, sym, ◌∙◌, ap, subst, inl, inr, arith}
+use Rattle.std.proofs.lemmas.Bool.{cases_eq}
+use Rattle.page_tree.specs.Forest.{Content, Forest, empty, node, Tree, rooted, same, count, size, height, head, tops, find, children, depth_in}
 use Rattle.page_tree.specs.Edits.{insert_at, with_children, without, subtree, alone, moved}
 use Rattle.page_tree.specs.Trees.{MayHave, IsGrown, IsOrdinary, AreOrdinary}
+use Rattle.page_tree.proofs.Finding.{find-rooted, same_cases, count-find, count-parts, same-eq}
 use Rattle.dom_arena.specs.declared.table.Slot.{Slot}
 use Rattle.dom_arena.specs.Contents.{payload_of, content_of, may_hold}
 use Rattle.dom_arena.specs.Slots.{slot_at, IsUsed, last, cell, with_link, past, placed}
-use Rattle.dom_arena.specs.Linked.{Linked, Stands, IsArena, tree_of, kids_of, forest_of, from_place, before_place}
+use Rattle.dom_arena.specs.Linked.{Stands, IsArena, tree_of, kids_of, from_place, before_place}
 use Rattle.dom_arena.specs.Moves.{CanMove}
 use Rattle.dom_arena.specs.Parts.{part_from, HoldPart}
 use Rattle.dom_arena.proofs.Parting.{part_from-linked}
-use Rattle.dom_arena.proofs.Links.{same_cases, forest_of-linked, content_of-payload_of, count-find, count-parts, stands_used, or_else-empty, no_zero, IsCell, IsCell-find}
-use Rattle.dom_arena.proofs.Siblings.{same-eq, counted_apart, before_place-in, from_place-in}
+use Rattle.dom_arena.proofs.Links.{content_of-payload_of, stands_used, no_zero, IsCell, IsCell-find}
+use Rattle.dom_arena.proofs.Siblings.{before_place-in, from_place-in}
 use Rattle.dom_arena.proofs.Family.{Family, family, found_node, counted_used}
-use Rattle.dom_arena.proofs.Ordinary.{AreOrdinary-find, IsGrown-find}
+use Rattle.page_tree.proofs.Keeps.{Named, Every-find}
+use Rattle.page_tree.proofs.Depths.{depth_in-without}
 use Rattle.dom_arena.proofs.Added.{tree_of-stands, Stands-viewed}
 use Rattle.dom_arena.proofs.Placed.{StandsBeside, Stands-placed_by, size_nodes}
 use Rattle.dom_arena.proofs.Unlinked.{count_tops-le, IsChild, child_of}
-use Rattle.dom_arena.proofs.Without.{count-without_le, children-without, depth_in-without}
+use Rattle.dom_arena.proofs.Without.{count-without_le, children-without}
 use Rattle.dom_arena.proofs.Detached.{linked_unique, kids_of_cell, without-rooted, total, sizes, slot_kept, stands_beside, length_made}
 use Rattle.dom_arena.proofs.Writes.{payload-with_link, payload-with_back_link, length-placed}
-
--- below the document a node is found as without it
-pub find-below : (k : ℕ) (f : Forest) → (k ≡ 0 → ⊥) → find k (rooted f) ≡ find k f
-find-below k f nz = rw (ne_eqb k 0 nz) (or_else-empty (find k f))
 
 -- what the slot of a node says of it and of what is below it
 pub record IsPart (slot : Slot) (n : ℕ) (found : Forest) : Type 0 where
@@ -52,10 +50,10 @@ module _ (slots : List Slot) (f : Forest) (stands : Stands slots f) (n : ℕ) (u
   c = content_of (slot_at slots n).payload
 
   part : IsPart (slot_at slots n) n (find n f)
-  part = part_of_cell (slot_at slots) n (find n f) (subst (IsCell (slot_at slots) n) (find-below n f nz) (found_node slots f stands n used)) (IsGrown-find n f stands.tree.grown) (AreOrdinary-find n f stands.tree.ordinary)
+  part = part_of_cell (slot_at slots) n (find n f) (subst (IsCell (slot_at slots) n) (find-rooted n f nz) (found_node slots f stands n used)) (Every-find MayHave n f stands.tree.grown) (Every-find Named n f stands.tree.ordinary)
 
   same_under : children (find n f) ≡ under
-  same_under = ap children (sym (find-below n f nz))
+  same_under = ap children (sym (find-rooted n f nz))
 
   -- the part that is moved
   pub whole : subtree n f ≡ node n c under empty
@@ -159,7 +157,11 @@ module _ (slots : List Slot) (f : Forest) (stands : Stands slots f) (n : ℕ) (u
 
   -- and its depth
   pub depth_same : depth_in p 0 (rooted (without n f)) ≡ depth_in p 0 (rooted f)
-  depth_same = ap (depth_in p 0) (sym (without-rooted n f nz)) ∙ depth_in-without n p 0 (rooted f) (stands.tree.once p) stays_rooted
+  depth_same =
+      elim (same_cases p 0) [
+        | inl q ↦ rw q.2 refl
+        | inr q ↦ rw (q.2, depth_in-without p n 1 f (omega (arith, stands.tree.once n)) apart) refl
+      ]
 
 -- the slot of a node with another place
 placed_cell : (x : Slot) (p a b : ℕ) (c : Content) (under : Forest) → x.first_child ≡ head under → x.last_child ≡ last under → x.payload ≡ payload_of c

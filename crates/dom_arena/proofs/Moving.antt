@@ -1,13 +1,13 @@
 -- Which refusal the move of a node gives.
-use Rattle.std.proofs.Common.{◌≡◌, ℕ, ◌+◌, ◌<◌, ◌≤◌, List, Option, Some, None, length, refl, sym, ◌∙◌, ap, arith}
+use Rattle.std.proofs.Common.{◌≡◌, ℕ, ◌+◌, ◌<◌, ◌≤◌, List, Option, Some, None, length, refl, ap}
 use Rattle.std.specs.Prelude.{option_map}
 use Rattle.std.specs.Option.{option_or}
-use Rattle.std.proofs.lemmas.Bool.{eq-eqb, ne_eqb, lt-ltb, le-ltb}
-use Rattle.page_tree.specs.Forest.{Forest, Tree, rooted, count, height, tops, find, children, depth_in}
+use Rattle.std.proofs.lemmas.Bool.{eq-eqb, lt-ltb, le-ltb}
+use Rattle.page_tree.specs.Forest.{Forest, Tree, rooted, count, height, tops, depth_in}
 use Rattle.page_tree.specs.Edits.{subtree, without, detached, children_of}
-use Rattle.page_tree.specs.Refusals.{Refusal, IntoItself as BelowItself, into_itself, place_past, parent_refused, detach_refused, too_deep, relink_refused}
+use Rattle.page_tree.specs.Refusals.{Refusal, into_itself, place_past, parent_refused, detach_refused, too_deep, relink_refused}
 use Rattle.dom_arena.specs.declared.refusals.DomError.{DomError}
-use Rattle.dom_arena.specs.declared.refusals.DomError.TheVariants.{IntoItself, BadPlace, TooDeep}
+use Rattle.dom_arena.specs.declared.refusals.DomError.TheVariants.{BadPlace, TooDeep}
 use Rattle.dom_arena.specs.declared.table.Slot.{Slot}
 use Rattle.dom_arena.specs.Slots.{IsUsed}
 use Rattle.dom_arena.specs.Linked.{Stands, tree_of, kids_of}
@@ -29,52 +29,33 @@ module _ (t : Tree) (n p i : ℕ) where
   abbrev behind_node : Option Refusal
   behind_node = option_or (parent_refused p t) behind_parent
 
-  -- there is no such node
-  pub no_node : (e : DomError) → option_map error_of (detach_refused n t) ≡ Some e → option_map error_of (relink_refused n p i t) ≡ Some e
-  no_node e h = first_refused (detach_refused n t) behind_node e h
+  module _ (node : detach_refused n t ≡ None) (parent : parent_refused p t ≡ None) (apart : count p (subtree n t.nodes) ≡ 0) where
+    beside_itself : into_itself n p t ≡ None
+    beside_itself = rw (eq-eqb (count p (subtree n t.nodes)) 0 apart) refl
 
-  module _ (node : detach_refused n t ≡ None) where
-    -- no such parent
-    pub bad_parent : (e : DomError) → option_map error_of (parent_refused p t) ≡ Some e → option_map error_of (relink_refused n p i t) ≡ Some e
-    bad_parent e h = then_refused (detach_refused n t) behind_node e node (first_refused (parent_refused p t) behind_parent e h)
+    behind_three : (e : DomError) → option_map error_of behind_itself ≡ Some e → option_map error_of (relink_refused n p i t) ≡ Some e
+    behind_three e h =
+        then_refused (detach_refused n t) behind_node e node (then_refused (parent_refused p t) behind_parent e parent (then_refused (into_itself n p t) behind_itself e beside_itself h))
 
-    module _ (parent : parent_refused p t ≡ None) where
-      itself : into_itself n p t ≡ Some (BelowItself n) → option_map error_of (relink_refused n p i t) ≡ Some (IntoItself n)
-      itself h =
-          then_refused (detach_refused n t) behind_node (IntoItself n) node
-          (then_refused (parent_refused p t) behind_parent (IntoItself n) parent (first_refused (into_itself n p t) behind_itself (IntoItself n) (ap (option_map error_of) h)))
+    -- past the other children
+    pub bad_place : children_of p (detached n t) < i → option_map error_of (relink_refused n p i t) ≡ Some (BadPlace i)
+    bad_place lt =
+        behind_three (BadPlace i)
+        (first_refused (place_past i (children_of p (detached n t))) behind_place (BadPlace i) (ap (option_map error_of) (place_missing i (children_of p (detached n t)) lt)))
 
-      -- below itself
-      pub below_itself : 0 < count p (subtree n t.nodes) → option_map error_of (relink_refused n p i t) ≡ Some (IntoItself n)
-      below_itself h = itself (rw (ne_eqb (count p (subtree n t.nodes)) 0 (λ e. omega arith)) refl)
+    module _ (le : i ≤ children_of p (detached n t)) where
+      -- too deep
+      pub deep_place : (e : DomError) → option_map error_of behind_place ≡ Some e → option_map error_of (relink_refused n p i t) ≡ Some e
+      deep_place e h =
+          behind_three e (then_refused (place_past i (children_of p (detached n t))) behind_place e (place_there i (children_of p (detached n t)) le) h)
 
-      module _ (apart : count p (subtree n t.nodes) ≡ 0) where
-        beside_itself : into_itself n p t ≡ None
-        beside_itself = rw (eq-eqb (count p (subtree n t.nodes)) 0 apart) refl
-
-        behind_three : (e : DomError) → option_map error_of behind_itself ≡ Some e → option_map error_of (relink_refused n p i t) ≡ Some e
-        behind_three e h =
-            then_refused (detach_refused n t) behind_node e node (then_refused (parent_refused p t) behind_parent e parent (then_refused (into_itself n p t) behind_itself e beside_itself h))
-
-        -- past the other children
-        pub bad_place : children_of p (detached n t) < i → option_map error_of (relink_refused n p i t) ≡ Some (BadPlace i)
-        bad_place lt =
-            behind_three (BadPlace i)
-            (first_refused (place_past i (children_of p (detached n t))) behind_place (BadPlace i) (ap (option_map error_of) (place_missing i (children_of p (detached n t)) lt)))
-
-        module _ (le : i ≤ children_of p (detached n t)) where
-          -- too deep
-          pub deep_place : (e : DomError) → option_map error_of behind_place ≡ Some e → option_map error_of (relink_refused n p i t) ≡ Some e
-          deep_place e h =
-              behind_three e (then_refused (place_past i (children_of p (detached n t))) behind_place e (place_there i (children_of p (detached n t)) le) h)
-
-          -- or nothing of this
-          pub good_place : behind_place ≡ None → relink_refused n p i t ≡ None
-          good_place h =
-              not_refused (detach_refused n t) behind_node node
-              (not_refused (parent_refused p t) behind_parent parent
-              (not_refused (into_itself n p t) behind_itself beside_itself
-              (not_refused (place_past i (children_of p (detached n t))) behind_place (place_there i (children_of p (detached n t)) le) h)))
+      -- or nothing of this
+      pub good_place : behind_place ≡ None → relink_refused n p i t ≡ None
+      good_place h =
+          not_refused (detach_refused n t) behind_node node
+          (not_refused (parent_refused p t) behind_parent parent
+          (not_refused (into_itself n p t) behind_itself beside_itself
+          (not_refused (place_past i (children_of p (detached n t))) behind_place (place_there i (children_of p (detached n t)) le) h)))
 
 -- how deep a part would stand
 pub part_too_deep : (o : Option ℕ) (depth high : ℕ) → o ≡ Some depth → 512 < depth + high → option_map error_of (too_deep o high) ≡ Some TooDeep

@@ -1,14 +1,14 @@
 -- The node behind another in document order, by the links.
-use Rattle.std.proofs.Common.{◌≡◌, ℕ, ◌<◌, ◌≤◌, cond, eqb, List, [], ◌++◌, Option, Some, None, refl, sym, ◌∙◌, ap, inl, inr, ◌⊎◌, arith, append_assoc}
+use Rattle.std.proofs.Common.{◌≡◌, ℕ, ◌<◌, ◌≤◌, cond, List, [], Option, Some, None, refl, sym, ◌∙◌, ap, inl, inr, ◌⊎◌, arith}
 use Rattle.std.proofs.lemmas.Bool.{cases_eq, eq-eqb, ne_eqb}
 use Rattle.std.proofs.lemmas.List.{append-nil}
-use Rattle.page_tree.specs.Forest.{Content, document, Forest, empty, node, rooted, count, numbers, head, first, or_else, find, children, or_some, first_in, behind}
+use Rattle.page_tree.specs.Forest.{document, Forest, empty, node, rooted, count, numbers, head, first, or_some, behind}
 use Rattle.page_tree.specs.Edits.{behind_subtree}
+use Rattle.page_tree.proofs.Finding.{same_cases, same-eq}
 use Rattle.dom_arena.specs.declared.table.Slot.{Slot}
 use Rattle.dom_arena.specs.Slots.{slot_at, IsUsed, number_of}
 use Rattle.dom_arena.specs.Linked.{Linked, Stands}
-use Rattle.dom_arena.proofs.Links.{same_cases, find-none, stands_used, first_child_found}
-use Rattle.dom_arena.proofs.Siblings.{same-eq}
+use Rattle.dom_arena.proofs.Links.{stands_used, first_child_found}
 use Rattle.page_tree.proofs.Below.{beyond, beyond-same, beyond-kids, beyond-later, behind-skip, behind-numbers}
 use Rattle.page_tree.proofs.Behind.{behind_subtree-beyond}
 use Rattle.dom_arena.proofs.Family.{counted_used}

@@ -2,14 +2,15 @@
 use Rattle.std.proofs.Common.{◌≡◌, ℕ, ◌+◌, ◌<◌, ◌≤◌, max, List, length, set, refl, sym, ◌∙◌, ap, subst, inl, inr, arith, length-set}
 use Rattle.std.proofs.lemmas.Bool.{cases_eq, cases_lt}
 use Rattle.std.proofs.lemmas.List.{get_or_past}
-use Rattle.page_tree.specs.Forest.{Content, Forest, empty, node, same, count, size, height, head}
+use Rattle.page_tree.specs.Forest.{Forest, empty, node, same, count, size, height, head}
+use Rattle.page_tree.proofs.Finding.{same_cases, same-eq}
 use Rattle.dom_arena.specs.declared.table.Slot.{Slot}
 use Rattle.dom_arena.specs.Slots.{free, slot_at, cell}
 use Rattle.dom_arena.specs.Linked.{Linked, forest_of}
 use Rattle.dom_arena.specs.Numbering.{cleared}
 use Rattle.dom_arena.specs.Parts.{part_from, HoldPart, AreCleared}
-use Rattle.dom_arena.proofs.Links.{same_cases, forest_of-linked}
-use Rattle.dom_arena.proofs.Siblings.{same-same, same-eq, counted_apart, Linked-frame}
+use Rattle.dom_arena.proofs.Links.{forest_of-linked}
+use Rattle.dom_arena.proofs.Siblings.{Linked-frame}
 use Rattle.dom_arena.proofs.Grafts.{slot_at-set_same, slot_at-set_other}
 
 -- the part from the first of linked siblings on is them

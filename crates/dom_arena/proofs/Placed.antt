@@ -1,20 +1,22 @@
 -- The slots with a node linked in, and all that is below it, stand for the tree with it.
 use Rattle.std.proofs.Common.{◌≡◌, ℕ, zero, suc, ◌+◌, ◌<◌, ◌≤◌, List, Some, None, true, length, refl, sym, ◌∙◌, ap, subst, inl, inr, arith}
 use Rattle.std.proofs.lemmas.Bool.{cases_lt}
-use Rattle.page_tree.specs.Forest.{Content, Forest, empty, node, rooted, same, count, size, height, depth_in, head, tops, find, or_else, children}
+use Rattle.page_tree.specs.Forest.{Content, Forest, empty, node, Tree, rooted, same, count, size, height, depth_in, head, tops, find, children}
 use Rattle.page_tree.specs.Edits.{insert_at, with_children}
 use Rattle.page_tree.specs.Trees.{IsTree, MayHave, IsGrown, IsOrdinary, AreOrdinary}
+use Rattle.page_tree.proofs.Finding.{count-find, count-parts, same-same, same-eq, counted_apart}
+use Rattle.page_tree.proofs.Totals.{count-with_children, count-insert}
 use Rattle.dom_arena.specs.declared.table.Slot.{Slot}
 use Rattle.dom_arena.specs.Contents.{may_hold}
 use Rattle.dom_arena.specs.Slots.{free, slot_at, last_behind, last, cell, placed}
 use Rattle.dom_arena.specs.Linked.{Linked, Stands, from_place, before_place}
-use Rattle.dom_arena.proofs.Links.{same_cases, count-find, count-parts}
-use Rattle.dom_arena.proofs.Siblings.{same-same, same-eq, counted_apart, Linked-frame, before_place-in, from_place-in, head-insert_first, Linked-insert}
-use Rattle.dom_arena.proofs.Grafts.{count-with_children, count-insert, size-with_children, size-insert, IsGrown-insert, IsGrown-with_children, Linked-rooted, after-parent, before-parent}
+use Rattle.page_tree.specs.Refusals.{parent_refused}
+use Rattle.page_tree.proofs.Keeps.{IsTree-placed, size-placed}
+use Rattle.dom_arena.proofs.Links.{IsCell-find}
+use Rattle.dom_arena.proofs.Siblings.{Linked-frame, before_place-in, from_place-in, head-insert_first, Linked-insert}
+use Rattle.dom_arena.proofs.Grafts.{Linked-rooted, after-parent, before-parent}
 use Rattle.dom_arena.proofs.Family.{Family, family_of}
-use Rattle.dom_arena.proofs.Refused.{holder}
-use Rattle.dom_arena.proofs.Heights.{heights, height-insert}
-use Rattle.dom_arena.proofs.Ordinary.{AreOrdinary-insert, ordinary_new, ordinary_below, grown_below}
+use Rattle.dom_arena.proofs.Refused.{is_parent}
 use Rattle.dom_arena.proofs.Writes.{kept, at_new, at_parent, at_before, at_after, length-placed}
 
 -- the slots stand for a forest, and beside it they hold what is below a node n that is not in the forest. The slot of n
@@ -172,7 +174,7 @@ module _ (slots : List Slot) (f : Forest) (n : ℕ) (under : Forest) (stands : S
 
   -- each number stands as often as before, and those of the node and of what is below it once more
   pub total : (k : ℕ) → count k (with_children p grown_kids (rooted f)) ≡ count k (rooted f) + (same k n + count k under)
-  total k = omega (arith, count-with_children (slot_at slots) k p grown_kids (rooted f) 0 0 stands.linked p_counted, count-insert k i (node n c under empty) kids)
+  total k = omega (arith, count-with_children k p grown_kids (rooted f) p_counted, count-insert k i (node n c under empty) kids)
 
   -- the other slots are free
   others : (k : ℕ) → count k (with_children p grown_kids (rooted f)) ≡ 0 → slot_at new_slots k ≡ free
@@ -184,45 +186,35 @@ module _ (slots : List Slot) (f : Forest) (n : ℕ) (under : Forest) (stands : S
       (λ na e. counted_apart after k (rooted f) (omega (arith, after_counted na, kids_inside after)) gone (sym e))
       ∙ stands.others k gone not_n (omega (arith, total k))
 
-  -- sizes and numbers
-  size_new : size (with_children p grown_kids (rooted f)) ≡ size f + 1 + suc (size under)
-  size_new = omega (arith, size-with_children (slot_at slots) p grown_kids (rooted f) 0 0 stands.linked p_counted, size-insert i (node n c under empty) kids)
-
   length_new : length new_slots ≡ length slots
   length_new = length-placed n p before after (cell p under after before c) slots
 
-  once_new : (k : ℕ) → count k (with_children p grown_kids (rooted f)) ≤ 1
-  once_new k = omega (arith, total k, stands.apart k)
+  -- it is a tree
+  abbrev old : Tree
+  old = record { nodes = f; next = length slots }
 
-  below_new : (k : ℕ) → length new_slots ≤ k → count k (with_children p grown_kids (rooted f)) ≡ 0
-  below_new k h = omega (arith, total k, stands.tree.below k (omega (arith, length_new)), stands.inside k (omega (arith, length_new)))
-
-  -- only elements have children, names are kept, and the limits too
-  grown : IsGrown (with_children p grown_kids (rooted f))
-  grown =
-      IsGrown-with_children (slot_at slots) p grown_kids (rooted f) 0 0 stands.linked
-      (λ d e. holder d grown_kids (ap may_hold e ∙ holds))
-      (IsGrown-insert i (node n c under empty) kids (may, stands.grown, tt) (grown_below p f stands.tree.grown))
-      (tt, stands.tree.grown, tt)
-
-  ordinary_nodes : AreOrdinary new_nodes
-  ordinary_nodes =
-      ordinary_new p grown_kids f (AreOrdinary-insert i (node n c under empty) kids (ordinary, stands.ordinary, tt) (ordinary_below p f stands.tree.ordinary)) stands.tree.ordinary
+  parent_there : parent_refused p old ≡ None
+  parent_there = is_parent (slot_at slots) p (find p (rooted f)) (IsCell-find (slot_at slots) p (rooted f) 0 0 stands.linked counted) holds
 
   pub size_nodes : size new_nodes ≡ size f + suc (size under)
-  size_nodes = omega (arith, size_new)
+  size_nodes = omega (arith, size-placed old stands.tree p i (length new_slots) e (node n c under empty) parent_there deep)
 
-  low_new : height new_nodes ≤ 512
-  low_new =
-      let bounds = heights (slot_at slots) p grown_kids (rooted f) 0 e 513 0 0 stands.linked p_counted deep (omega (arith, stands.tree.low)) in
-      omega (arith, bounds.0, bounds.1 (omega (arith, bounds.0, height-insert i (node n c under empty) kids)))
+  tree_new : IsTree (record { nodes = new_nodes; next = length new_slots })
+  tree_new =
+      IsTree-placed old stands.tree p i (length new_slots) e (node n c under empty) parent_there deep
+      (may, stands.grown, tt)
+      (ordinary, stands.ordinary, tt)
+      (λ k. omega (arith, stands.apart k))
+      (λ k h. omega (arith, stands.tree.below k (omega (arith, length_new)), stands.inside k (omega (arith, length_new))))
+      (omega (arith, few))
+      (omega (arith, shallow))
 
   -- so the slots stand for the tree with the node
   pub Stands-placed : Stands new_slots new_nodes
   Stands-placed = record {
     linked = linked;
     others = others;
-    tree = record { once = once_new; below = below_new; grown = grown.1; ordinary = ordinary_nodes; few = omega (arith, size_nodes, few); low = low_new };
+    tree = tree_new;
     fits = omega (arith, size_nodes, length_new, stands.fits);
   }
 

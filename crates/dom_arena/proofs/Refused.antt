@@ -1,17 +1,17 @@
 -- Which refusal a change gives, by the slot of the node, and the error that is answered.
-use Rattle.std.proofs.Common.{◌≡◌, cond, ℕ, ◌<◌, ◌≤◌, true, false, List, Option, Some, None, Result, Err, MatchOption, refl, sym, ◌∙◌, ap}
-use Rattle.std.specs.Prelude.{◌==◌, option_map}
+use Rattle.std.proofs.Common.{◌≡◌, ℕ, ◌<◌, ◌≤◌, true, false, List, Option, Some, None, Result, Err, MatchOption, refl, sym, ◌∙◌, ap}
+use Rattle.std.specs.Prelude.{option_map}
 use Rattle.std.specs.Option.{option_or}
 use Rattle.std.proofs.lemmas.Bool.{lt-ltb, le-ltb, ne_eqb}
-use Rattle.page_tree.specs.Forest.{Content, document, element, text, comment, Forest, empty, node, rooted, find}
-use Rattle.page_tree.specs.Refusals.{Refusal, NoSuchNode, NotElement, NotText, BadPlace, IsDocument, node_among, element_among, text_among, parent_among, document_refused, place_past}
+use Rattle.page_tree.specs.Forest.{document, element, text, comment, Forest, empty, node, rooted, find}
+use Rattle.page_tree.specs.Refusals.{Refusal, NoSuchNode, NotElement, NotText, BadPlace, node_among, element_among, text_among, parent_among, document_refused, place_past}
 use Rattle.page_tree.specs.Trees.{MayHave}
 use Rattle.dom_arena.specs.declared.kinds.NewNode.{NewNode}
 use Rattle.dom_arena.specs.declared.kinds.NewNode.TheVariants.{Element, Text, Comment}
 use Rattle.dom_arena.specs.declared.kinds.Payload.TheVariants.{Free}
 use Rattle.dom_arena.specs.declared.refusals.DomError.{DomError}
 use Rattle.dom_arena.specs.declared.table.Slot.{Slot}
-use Rattle.dom_arena.specs.Contents.{payload_of, may_hold, holds_text, new_content}
+use Rattle.dom_arena.specs.Contents.{may_hold, holds_text, new_content}
 use Rattle.dom_arena.specs.Slots.{slot_at, IsUsed}
 use Rattle.dom_arena.specs.Linked.{Stands}
 use Rattle.dom_arena.specs.Attributes.{is_element}
@@ -40,13 +40,6 @@ answered P (Some refusal) e result h r = let same : e ≡ error_of refusal = cc 
 pub accepted : {T : Type 0} (P : Type 0) (o : Option Refusal) (result : Result T DomError) → o ≡ None → P → MatchOption o P (λ refusal. result ≡ Err (error_of refusal))
 accepted P o result e p = rw e p
 
--- what may have children may have these
-pub holder : (c : Content) (g : Forest) → may_hold (payload_of c) ≡ true → MayHave c g
-holder document g h = tt
-holder (element name attrs) g h = tt
-holder (text bytes) g h = cc
-holder (comment bytes) g h = cc
-
 -- a new node needs no children
 pub childless : (new : NewNode) → MayHave (new_content new) empty
 childless (Element name attrs) = tt
@@ -63,7 +56,7 @@ module _ (s : ℕ → Slot) (n : ℕ) where
   not_parent (node m (comment bytes) kids later) h f = refl
 
   -- the others may have some
-  is_parent : (g : Forest) → IsCell s n g → may_hold (s n).payload ≡ true → parent_among n g ≡ None
+  pub is_parent : (g : Forest) → IsCell s n g → may_hold (s n).payload ≡ true → parent_among n g ≡ None
   is_parent empty h t = absurd h
   is_parent (node m document kids later) h t = refl
   is_parent (node m (element name attrs) kids later) h t = refl

@@ -1,19 +1,22 @@
 -- An element with other attributes, in the forest and in the slots.
-use Rattle.std.proofs.Common.{◌≡◌, ℕ, true, false, List, length, refl, sym, ◌∙◌, ap, subst, inl, inr, arith, length-set}
+use Rattle.std.proofs.Common.{◌≡◌, ℕ, true, false, List, None, length, refl, sym, ◌∙◌, ap, subst, inl, inr, arith, length-set}
 use Rattle.std.specs.Prelude.{unwrap_or}
-use Rattle.page_tree.specs.Forest.{Content, document, element, text, comment, Forest, empty, node, Tree, rooted, count, size, height, head, find, content, name_of, attrs_of}
+use Rattle.page_tree.specs.Forest.{Content, document, element, text, comment, Forest, empty, node, Tree, rooted, count, size, head, find, content, name_of, attrs_of}
 use Rattle.page_tree.specs.Edits.{with_content, rewritten, with_attr, without_attr, content_at, with_attr_set, with_attr_dropped, with_text}
-use Rattle.page_tree.specs.Trees.{MayHave, IsGrown, IsOrdinary, AreOrdinary, AreAttributes, IsLowerCase}
+use Rattle.page_tree.specs.Trees.{IsTree, MayHave, IsOrdinary, AreOrdinary, AreAttributes, IsLowerCase}
+use Rattle.page_tree.specs.Refusals.{text_refused}
+use Rattle.page_tree.proofs.Totals.{count-with_content, size-with_content}
+use Rattle.page_tree.proofs.Keeps.{Named, AtFirst, Every-find, IsTree-rewritten, IsTree-with_text}
+use Rattle.page_tree.proofs.Finding.{same_cases, or_else-empty}
 use Rattle.dom_arena.specs.declared.kinds.Payload.{Payload}
 use Rattle.dom_arena.specs.declared.table.Slot.{Slot}
-use Rattle.dom_arena.specs.Contents.{payload_of, holds_text}
+use Rattle.dom_arena.specs.Contents.{payload_of}
 use Rattle.dom_arena.specs.Slots.{slot_at, IsUsed, last_behind, cell, with_payload}
 use Rattle.dom_arena.specs.Linked.{Linked, Stands, IsArena, tree_of}
 use Rattle.dom_arena.specs.Attributes.{is_element, attrs_in, with_attrs}
-use Rattle.dom_arena.proofs.Links.{same_cases, IsCell, or_else-empty, used_inside, stands_used}
+use Rattle.dom_arena.proofs.Links.{IsCell, used_inside, stands_used}
 use Rattle.dom_arena.proofs.Grafts.{slot_at-set_same, slot_at-set_other}
 use Rattle.dom_arena.proofs.Family.{found_node}
-use Rattle.dom_arena.proofs.Ordinary.{AreOrdinary-find}
 use Rattle.dom_arena.proofs.Added.{tree_of-stands, Stands-viewed}
 use Rattle.dom_arena.proofs.Attributes.{AreAttributes-with_attr, AreAttributes-without_attr}
 
@@ -31,44 +34,6 @@ module _ (k : ℕ) (new : Content) where
 
   cell-with_content : (parent : ℕ) (kids later : Forest) (previous : ℕ) (c : Content) → cell parent (with_content k new kids) (head (with_content k new later)) previous c ≡ cell parent kids (head later) previous c
   cell-with_content parent kids later previous c = rw (head-with_content kids, head-with_content later, last_behind-with_content 0 kids) refl
-
-  -- counts, sizes and heights stay
-  count-with_content : (j : ℕ) (f : Forest) → count j (with_content k new f) ≡ count j f
-  count-with_content j empty = refl
-  count-with_content j (node n c kids later) = rw (count-with_content j kids, count-with_content j later) refl
-
-  size-with_content : (f : Forest) → size (with_content k new f) ≡ size f
-  size-with_content empty = refl
-  size-with_content (node n c kids later) = rw (size-with_content kids, size-with_content later) refl
-
-  height-with_content : (f : Forest) → height (with_content k new f) ≡ height f
-  height-with_content empty = refl
-  height-with_content (node n c kids later) = rw (height-with_content kids, height-with_content later) refl
-
-  -- what has no children gets none
-  MayHave-with_content : (c : Content) (kids : Forest) → MayHave c kids → MayHave c (with_content k new kids)
-  MayHave-with_content document kids h = tt
-  MayHave-with_content (element name attrs) kids h = tt
-  MayHave-with_content (text bytes) kids h = rw h refl
-  MayHave-with_content (comment bytes) kids h = rw h refl
-
-  -- only elements have children, where the new content is one
-  IsGrown-with_content : (f : Forest) → ((kids : Forest) → MayHave new kids) → IsGrown f → IsGrown (with_content k new f)
-  IsGrown-with_content empty may h = tt
-  IsGrown-with_content (node n c kids later) may h =
-      elim (same_cases k n) [
-        | inl q ↦ rw q.2 (may (with_content k new kids), IsGrown-with_content kids may h.1, IsGrown-with_content later may h.2)
-        | inr q ↦ rw q.2 (MayHave-with_content c kids h.0, IsGrown-with_content kids may h.1, IsGrown-with_content later may h.2)
-      ]
-
-  -- names are kept, where the new content keeps them
-  AreOrdinary-with_content : (f : Forest) → IsOrdinary new → AreOrdinary f → AreOrdinary (with_content k new f)
-  AreOrdinary-with_content empty ordinary h = tt
-  AreOrdinary-with_content (node n c kids later) ordinary h =
-      elim (same_cases k n) [
-        | inl q ↦ rw q.2 (ordinary, AreOrdinary-with_content kids ordinary h.1, AreOrdinary-with_content later ordinary h.2)
-        | inr q ↦ rw q.2 (h.0, AreOrdinary-with_content kids ordinary h.1, AreOrdinary-with_content later ordinary h.2)
-      ]
 
 -- slots that differ in what one of them holds
 Linked-with_content : (s s' : ℕ → Slot) (k : ℕ) (new : Content) (f : Forest) (parent previous : ℕ) → Linked s parent previous f
@@ -102,7 +67,7 @@ module _ (slots : List Slot) (f : Forest) (stands : Stands slots f) (k : ℕ) (u
       below = elim (same_cases k 0) [ inl q ↦ absurd (nz q.0) | inr q ↦ rw q.2 (or_else-empty (find k f)) ]
 
       found_ordinary : AreOrdinary (find k (rooted f))
-      found_ordinary = subst AreOrdinary (sym below) (AreOrdinary-find k f stands.tree.ordinary)
+      found_ordinary = subst AreOrdinary (sym below) (Every-find Named k f stands.tree.ordinary)
 
       of_found : (g : Forest) → IsCell (slot_at slots) k g → AreOrdinary g → HoldsElement slots k (unwrap_or (content g) document)
       of_found empty h o = absurd h
@@ -113,7 +78,7 @@ module _ (slots : List Slot) (f : Forest) (stands : Stands slots f) (k : ℕ) (u
 
 -- ---- the slots with other attributes stand for the tree with them
 
-module _ (slots : List Slot) (f : Forest) (stands : Stands slots f) (k : ℕ) (used : IsUsed slots k) (nz : k ≡ 0 → ⊥) (new : Content) (ordinary : IsOrdinary new) (grown : IsGrown (with_content k new f)) where
+module _ (slots : List Slot) (f : Forest) (stands : Stands slots f) (k : ℕ) (used : IsUsed slots k) (nz : k ≡ 0 → ⊥) (new : Content) (tree : IsTree (rewritten k new (record { nodes = f; next = length slots }))) where
   abbrev new_slots : List Slot
   new_slots = with_payload k (payload_of new) slots
 
@@ -133,7 +98,7 @@ module _ (slots : List Slot) (f : Forest) (stands : Stands slots f) (k : ℕ) (u
       ]
 
   counted : (j : ℕ) → count j (rooted (with_content k new f)) ≡ count j (rooted f)
-  counted j = rw (count-with_content k new j f) refl
+  counted j = rw (count-with_content j k new f) refl
 
   length_new : length new_slots ≡ length slots
   length_new = length-set slots k _
@@ -143,24 +108,17 @@ module _ (slots : List Slot) (f : Forest) (stands : Stands slots f) (k : ℕ) (u
   Stands-rewritten = record {
     linked = root_kept;
     others = λ j z. kept j (λ e. omega (arith, counted j, stands_used slots f stands k used, ap (λ (i : ℕ). count i (rooted f)) e)) ∙ stands.others j (omega (arith, counted j));
-    tree = record {
-      once = λ j. omega (arith, counted j, stands.tree.once j);
-      below = λ j le. omega (arith, counted j, stands.tree.below j (omega (arith, length_new)));
-      grown = grown;
-      ordinary = AreOrdinary-with_content k new f ordinary stands.tree.ordinary;
-      few = omega (arith, size-with_content k new f, stands.tree.few);
-      low = omega (arith, height-with_content k new f, stands.tree.low);
-    };
+    tree = subst (λ (n : ℕ). IsTree (record { nodes = with_content k new f; next = n })) (sym length_new) tree;
     fits = omega (arith, size-with_content k new f, length_new, stands.fits);
   }
 
 -- all of it, from what a body says of its write
 pub rewritten_arena : (slots : List Slot) (nodes k : ℕ) (new : Content) (made : List Slot) → IsArena slots nodes → IsUsed slots k → (k ≡ 0 → ⊥)
-    → IsOrdinary new → IsGrown (with_content k new (tree_of slots).nodes) → made ≡ with_payload k (payload_of new) slots
+    → IsTree (rewritten k new (tree_of slots)) → made ≡ with_payload k (payload_of new) slots
     → IsArena made nodes × (tree_of made ≡ rewritten k new (tree_of slots))
-rewritten_arena slots nodes k new made arena used nz ordinary grown e =
+rewritten_arena slots nodes k new made arena used nz tree e =
     let f : Forest = (tree_of slots).nodes in
-    let stands : Stands (with_payload k (payload_of new) slots) (with_content k new f) = Stands-rewritten slots f arena.stands k used nz new ordinary grown in
+    let stands : Stands (with_payload k (payload_of new) slots) (with_content k new f) = Stands-rewritten slots f arena.stands k used nz new tree in
     let same_tree : tree_of made ≡ rewritten k new (tree_of slots) =
     ap tree_of e ∙ tree_of-stands _ _ stands ∙ ap (λ (n : ℕ). record { nodes = with_content k new f; next = n }) (length-set slots k _) in (
       record {
@@ -169,6 +127,11 @@ rewritten_arena slots nodes k new made arena used nz ordinary grown e =
       },
       same_tree,
     )
+
+-- an element may have the children of any node
+element_fits : (name : List ℕ) (attrs : List (List ℕ × List ℕ)) (f : Forest) → AtFirst (λ c kids. MayHave (element name attrs) kids) f
+element_fits name attrs empty = tt
+element_fits name attrs (node n c kids later) = tt
 
 -- an attribute set and one dropped, from what the table says of its write
 module _ (slots : List Slot) (nodes k : ℕ) (arena : IsArena slots nodes) (used : IsUsed slots k) (nz : k ≡ 0 → ⊥) (is : is_element (slot_at slots k).payload ≡ true) where
@@ -188,8 +151,7 @@ module _ (slots : List Slot) (nodes k : ℕ) (arena : IsArena slots nodes) (used
       → IsArena made nodes × (tree_of made ≡ with_attr_set k name value (tree_of slots))
   set_arena name value made low e =
       rewritten_arena slots nodes k (element (name_of here) (with_attr name value (attrs_of here))) made arena used nz
-      (held.ordinary.0, AreAttributes-with_attr name value (attrs_of here) low held.ordinary.1)
-      (IsGrown-with_content k (element (name_of here) (with_attr name value (attrs_of here))) (tree_of slots).nodes (λ _. tt) arena.stands.tree.grown)
+      (IsTree-rewritten (tree_of slots) arena.stands.tree k (element (name_of here) (with_attr name value (attrs_of here))) (held.ordinary.0, AreAttributes-with_attr name value (attrs_of here) low held.ordinary.1) (element_fits (name_of here) (with_attr name value (attrs_of here)) (find k (tree_of slots).nodes)))
       (e ∙ ap (λ (p : Payload). with_payload k (with_attrs (with_attr name value (attrs_in p)) p) slots) held.payload)
 
   -- an attribute dropped
@@ -198,40 +160,12 @@ module _ (slots : List Slot) (nodes k : ℕ) (arena : IsArena slots nodes) (used
       → IsArena made nodes × (tree_of made ≡ with_attr_dropped k name (tree_of slots))
   drop_arena name made e =
       rewritten_arena slots nodes k (element (name_of here) (without_attr name (attrs_of here))) made arena used nz
-      (held.ordinary.0, AreAttributes-without_attr name (attrs_of here) held.ordinary.1)
-      (IsGrown-with_content k (element (name_of here) (without_attr name (attrs_of here))) (tree_of slots).nodes (λ _. tt) arena.stands.tree.grown)
+      (IsTree-rewritten (tree_of slots) arena.stands.tree k (element (name_of here) (without_attr name (attrs_of here))) (held.ordinary.0, AreAttributes-without_attr name (attrs_of here) held.ordinary.1) (element_fits (name_of here) (without_attr name (attrs_of here)) (find k (tree_of slots).nodes)))
       (e ∙ ap (λ (p : Payload). with_payload k (with_attrs (without_attr name (attrs_in p)) p) slots) held.payload)
 
 -- ---- a text with other bytes
 
--- nothing stands below a text
-text_childless : (d : Content) (kids : Forest) → holds_text (payload_of d) ≡ true → MayHave d kids → kids ≡ empty
-text_childless document kids h may = cc
-text_childless (element name attrs) kids h may = cc
-text_childless (text bytes) kids h may = may
-text_childless (comment bytes) kids h may = cc
-
--- so another text may stand there
-IsGrown-with_text : (s : ℕ → Slot) (k : ℕ) (bytes : List ℕ) (f : Forest) (parent previous : ℕ) → Linked s parent previous f → holds_text (s k).payload ≡ true → IsGrown f → IsGrown (with_content k (text bytes) f)
-IsGrown-with_text s k bytes empty parent previous l is h = tt
-IsGrown-with_text s k bytes (node n c kids later) parent previous l is h =
-    elim (same_cases k n) [
-      | inl q ↦
-          let e : holds_text (payload_of c) ≡ true = ap (λ (x : Slot). holds_text x.payload) (sym (ap s q.0 ∙ l.0)) ∙ is in
-          rw q.2 (
-            ap (with_content k (text bytes)) (text_childless c kids e h.0),
-            IsGrown-with_text s k bytes kids n 0 l.1 is h.1,
-            IsGrown-with_text s k bytes later parent n l.2 is h.2,
-          )
-      | inr q ↦ rw q.2 (
-        MayHave-with_content k (text bytes) c kids h.0,
-        IsGrown-with_text s k bytes kids n 0 l.1 is h.1,
-        IsGrown-with_text s k bytes later parent n l.2 is h.2,
-      )
-    ]
-
--- a text set
-pub text_arena : (slots : List Slot) (nodes k : ℕ) (bytes : List ℕ) (made : List Slot) → IsArena slots nodes → IsUsed slots k → (k ≡ 0 → ⊥) → holds_text (slot_at slots k).payload ≡ true
+pub text_arena : (slots : List Slot) (nodes k : ℕ) (bytes : List ℕ) (made : List Slot) → IsArena slots nodes → IsUsed slots k → (k ≡ 0 → ⊥) → text_refused k (tree_of slots) ≡ None
     → made ≡ with_payload k (payload_of (text bytes)) slots → IsArena made nodes × (tree_of made ≡ with_text k bytes (tree_of slots))
-text_arena slots nodes k bytes made arena used nz is e =
-    rewritten_arena slots nodes k (text bytes) made arena used nz tt (IsGrown-with_text (slot_at slots) k bytes (tree_of slots).nodes 0 0 arena.stands.linked.1 is arena.stands.tree.grown) e
+text_arena slots nodes k bytes made arena used nz accepted e =
+    rewritten_arena slots nodes k (text bytes) made arena used nz (IsTree-with_text (tree_of slots) arena.stands.tree k bytes accepted) e

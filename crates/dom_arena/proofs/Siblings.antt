@@ -1,23 +1,11 @@
 -- A new node between siblings.
 use Rattle.std.proofs.Common.{◌≡◌, ℕ, zero, suc, ◌+◌, ◌<◌, ◌≤◌, length, refl, sym, ◌∙◌, ap, inl, inr, ◌⊎◌, arith}
-use Rattle.page_tree.specs.Forest.{Content, Forest, empty, node, same, count, head, tops}
+use Rattle.page_tree.specs.Forest.{Content, Forest, empty, node, count, head, tops}
 use Rattle.page_tree.specs.Edits.{insert_at}
+use Rattle.page_tree.proofs.Finding.{same-same, same-eq}
 use Rattle.dom_arena.specs.declared.table.Slot.{Slot}
 use Rattle.dom_arena.specs.Slots.{cell}
 use Rattle.dom_arena.specs.Linked.{Linked, from_place, before_place}
-use Rattle.dom_arena.proofs.Links.{same_cases}
-
--- a number is the same as itself
-pub same-same : (n : ℕ) → same n n ≡ 1
-same-same n = elim (same_cases n n) [ inl p ↦ p.1 | inr p ↦ absurd (p.0 refl) ]
-
--- equal numbers are the same
-pub same-eq : (k n : ℕ) → k ≡ n → same k n ≡ 1
-same-eq k n e = elim (same_cases k n) [ inl p ↦ p.1 | inr p ↦ absurd (p.0 e) ]
-
--- a number that is counted is not one that isn't
-pub counted_apart : (k j : ℕ) (f : Forest) → 0 < count k f → count j f ≡ 0 → k ≡ j → ⊥
-counted_apart k j f h z e = let w : count k f ≡ 0 = ap (λ i. count i f) e ∙ z in omega arith
 
 -- slots that agree on a forest hold it alike
 pub Linked-frame : (s s' : ℕ → Slot) (f : Forest) (parent previous : ℕ) → ((k : ℕ) → 0 < count k f → s' k ≡ s k) → Linked s parent previous f → Linked s' parent previous f

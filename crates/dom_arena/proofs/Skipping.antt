@@ -3,11 +3,11 @@ use Rattle.std.proofs.Common.{◌≡◌, ℕ, zero, suc, ◌<◌, ◌≤◌, len
 use Rattle.std.proofs.lemmas.Bool.{cases_eq, eq-eqb, ne_eqb}
 use Rattle.page_tree.specs.Forest.{Content, Forest, empty, node, count, head, tops}
 use Rattle.page_tree.specs.Edits.{without}
+use Rattle.page_tree.proofs.Finding.{same_cases, same-eq, counted_apart}
 use Rattle.dom_arena.specs.declared.table.Slot.{Slot}
 use Rattle.dom_arena.specs.Slots.{skipped_to}
 use Rattle.dom_arena.specs.Linked.{Linked, from_place, before_place}
-use Rattle.dom_arena.proofs.Links.{same_cases}
-use Rattle.dom_arena.proofs.Siblings.{same-eq, counted_apart, from_place-in}
+use Rattle.dom_arena.proofs.Siblings.{from_place-in}
 use Rattle.dom_arena.proofs.Grafts.{place_step}
 
 -- what stands before all siblings doesn't count behind the first

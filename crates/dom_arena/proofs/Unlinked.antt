@@ -1,16 +1,14 @@
 -- A node taken out from among its siblings, in the forest and in the slots.
-use Rattle.std.proofs.Common.{◌≡◌, ℕ, ◌+◌, ◌<◌, ◌≤◌, eqb, true, false, refl, sym, ◌∙◌, ap, subst, inl, inr, ◌⊎◌, arith}
+use Rattle.std.proofs.Common.{◌≡◌, ℕ, ◌+◌, ◌<◌, ◌≤◌, eqb, false, refl, sym, ◌∙◌, ap, subst, inl, inr, ◌⊎◌, arith}
 use Rattle.std.proofs.lemmas.Bool.{cases_eq}
 use Rattle.page_tree.specs.Forest.{Content, Forest, empty, node, same, count, head, find, children}
 use Rattle.page_tree.specs.Edits.{with_children, without}
+use Rattle.page_tree.proofs.Totals.{with_children-none, without-none}
 use Rattle.dom_arena.specs.declared.table.Slot.{Slot}
 use Rattle.dom_arena.specs.Slots.{last_behind, cell}
 use Rattle.dom_arena.specs.Linked.{Linked}
-use Rattle.dom_arena.proofs.Links.{same_cases, find-none}
-use Rattle.dom_arena.proofs.Siblings.{same-same, same-eq, counted_apart, Linked-frame}
-use Rattle.dom_arena.proofs.Grafts.{with_children-none}
-use Rattle.page_tree.proofs.Finding.{find-counted}
-use Rattle.dom_arena.proofs.Without.{without-none}
+use Rattle.dom_arena.proofs.Siblings.{Linked-frame}
+use Rattle.page_tree.proofs.Finding.{find-counted, same_cases, find-none, same-same, same-eq, counted_apart}
 
 -- how often a number stands among the siblings at the top
 abbrev pub count_tops : ℕ → Forest → ℕ

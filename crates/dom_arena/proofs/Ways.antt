@@ -3,13 +3,12 @@ use Rattle.std.proofs.Common.{◌≡◌, ℕ, zero, suc, ◌+◌, ◌≤◌, tru
 use Rattle.page_tree.specs.Forest.{Content, Forest, empty, node, same, count, find, children}
 use Rattle.page_tree.specs.Edits.{joined, insert_at, with_children}
 use Rattle.page_tree.specs.Fragments.{hung}
+use Rattle.page_tree.proofs.Finding.{same_cases, same-same}
+use Rattle.page_tree.proofs.Totals.{with_children-none}
 use Rattle.dom_arena.specs.declared.table.Slot.{Slot}
 use Rattle.dom_arena.specs.Contents.{payload_of, may_hold}
 use Rattle.dom_arena.specs.Slots.{climbed, last_behind}
 use Rattle.dom_arena.specs.Linked.{Linked}
-use Rattle.dom_arena.proofs.Links.{same_cases}
-use Rattle.dom_arena.proofs.Siblings.{same-same}
-use Rattle.dom_arena.proofs.Grafts.{with_children-none}
 use Rattle.dom_arena.proofs.Regrafts.{find_down, find_along}
 
 -- so many nodes stand below each other along the last ones, and may have children

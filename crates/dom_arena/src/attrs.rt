@@ -12,7 +12,8 @@ use std::alloc::AllocError;
 
 // The value of the attribute of this name.
 pub(crate) fn value_in<'a>(attrs: &'a [(Text, Text)], name: &str) -> Option<&'a str>
-    ensures { MatchOption result (value_at name.now attrs.now ≡ None) (λ value. value_at name.now attrs.now ≡ Some value.now) }
+    ensures { MatchOption result (value_at name.now attrs.now ≡ None)
+        (λ value. value_at name.now attrs.now ≡ Some value.now) }
 {
     for attr in attrs {
         if attr.0.as_str() == name {
@@ -24,7 +25,8 @@ pub(crate) fn value_in<'a>(attrs: &'a [(Text, Text)], name: &str) -> Option<&'a 
 
 // The name and the value of the attribute at a place.
 pub(crate) fn pair_at(attrs: &[(Text, Text)], i: usize) -> Option<(&str, &str)>
-    ensures { MatchOption result (slice_get attrs.now i ≡ None) (λ attr. slice_get attrs.now i ≡ Some (attr.0.now, attr.1.now)) }
+    ensures { MatchOption result (slice_get attrs.now i ≡ None)
+        (λ attr. slice_get attrs.now i ≡ Some (attr.0.now, attr.1.now)) }
 {
     if i < attrs.len() {
         let attr = &attrs[i];
@@ -78,7 +80,8 @@ fn drop_from(attrs: &mut Attrs, name: &str)
 pub(crate) fn set_attr(payload: &mut Payload, name: Text, value: Text) -> Result<(), AllocError>
     requires attrs { AreAttributes (attrs_in payload.old) }
     requires name { IsLowerCase name }
-    ensures ok { OnOk result (payload.new ≡ with_attrs (with_attr name value (attrs_in payload.old)) payload.old) }
+    ensures ok { OnOk result
+        (payload.new ≡ with_attrs (with_attr name value (attrs_in payload.old)) payload.old) }
     ensures err { OnErr result (payload.new ≡ payload.old) }
 {
     match payload {
@@ -90,7 +93,8 @@ pub(crate) fn set_attr(payload: &mut Payload, name: Text, value: Text) -> Result
 // Takes an element's attribute out; nothing else has one.
 pub(crate) fn drop_attr(payload: &mut Payload, name: &str)
     requires { AreAttributes (attrs_in payload.old) }
-    ensures { payload.new ≡ with_attrs (without_attr (str_to_ascii_lowercase name.now) (attrs_in payload.old)) payload.old }
+    ensures { payload.new ≡ with_attrs
+        (without_attr (str_to_ascii_lowercase name.now) (attrs_in payload.old)) payload.old }
 {
     if let Payload::Element { attrs, .. } = payload {
         drop_from(attrs, name);

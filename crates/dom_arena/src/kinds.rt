@@ -100,7 +100,8 @@ impl<'a> NodeRef<'a> {
 
     /// The value of an element's attribute; `None` where it has none of this name.
     pub fn attr(&self, name: &str) -> Option<&'a str>
-        ensures { MatchOption result (value_at name.now (attrs_of self.now) ≡ None) (λ value. value_at name.now (attrs_of self.now) ≡ Some value.now) }
+        ensures { MatchOption result (value_at name.now (attrs_of self.now) ≡ None)
+            (λ value. value_at name.now (attrs_of self.now) ≡ Some value.now) }
     {
         match self.payload {
             Payload::Element { attrs, .. } => value_in(attrs.as_slice(), name),
@@ -110,7 +111,8 @@ impl<'a> NodeRef<'a> {
 
     /// The name and the value of an element's attribute at a place, counted from 0; `None` past the last.
     pub fn attr_at(&self, i: usize) -> Option<(&'a str, &'a str)>
-        ensures { MatchOption result (slice_get (attrs_of self.now) i ≡ None) (λ attr. slice_get (attrs_of self.now) i ≡ Some (attr.0.now, attr.1.now)) }
+        ensures { MatchOption result (slice_get (attrs_of self.now) i ≡ None)
+            (λ attr. slice_get (attrs_of self.now) i ≡ Some (attr.0.now, attr.1.now)) }
     {
         match self.payload {
             Payload::Element { attrs, .. } => pair_at(attrs.as_slice(), i),

@@ -72,7 +72,8 @@ pub(crate) fn take_out(table: &mut Table, n: u32) -> u32
     requires below { n ≡ 0 → ⊥ }
     ensures stands { Stands table.new.0 (without n (tree_of table.old.0).nodes) }
     ensures long { length table.new.0 ≡ length table.old.0 }
-    ensures count { size (without n (tree_of table.old.0).nodes) + result ≡ size (tree_of table.old.0).nodes }
+    ensures count { size (without n (tree_of table.old.0).nodes) + result ≡ size
+        (tree_of table.old.0).nodes }
 {
     unlink(table, n);
     let first = table.first_child(n);

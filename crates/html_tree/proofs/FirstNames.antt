@@ -1,5 +1,5 @@
 -- Of attributes with equal names the first.
-use Rattle.std.proofs.Common.{◌≡◌, ℕ, zero, suc, ◌+◌, ◌<◌, ◌≤◌, Bool, true, false, cond, ◌||◌, List, [], ◌∷◌, ◌++◌, length, drop, take, get_or, map, min, drop_of_length-le, refl, arith, ap, sym, ◌∙◌, add-one, append_assoc, None, ⊎_elim, take-append-drop}
+use Rattle.std.proofs.Common.{◌≡◌, ℕ, zero, suc, ◌+◌, ◌<◌, ◌≤◌, Bool, true, false, cond, not, ◌||◌, List, [], ◌∷◌, ◌++◌, length, drop, take, get_or, map, min, drop_of_length-le, refl, arith, ap, sym, ◌∙◌, add-one, append_assoc, None, ⊎_elim, take-append-drop}
 use Rattle.std.proofs.lemmas.Bool.{cases_Bool, false_from_ne_true, or_left, or_right, cond-true, cond-false, both_ways}
 use Rattle.std.proofs.lemmas.List.{map-append, take-map, length-map, length-append, drop_min, drop-append-le}
 use Rattle.std.proofs.lemmas.Bool.Decides.{same_from_decides}
@@ -13,7 +13,14 @@ use Rattle.html_meaning.specs.Bytes.{is_among}
 use Rattle.html_meaning.specs.Tokens.{attribute_pairs}
 use Rattle.html_meaning.specs.Page.{firsts, element_attributes}
 use Rattle.html_tree.specs.declared.attributes.TheConstants.{FEW}
-use Rattle.html_tree.specs.LaterNames.{names_in, as_read}
+use Rattle.std.proofs.lemmas.Map.Text.{is_eq-slice_cmp}
+use Rattle.std.specs.BTreeMap.{is_at}
+use Rattle.std.specs.BTreeSet.{BTreeSet, contains}
+use Rattle.std.specs.Cmp.Lexicographic.{slice_cmp}
+use Rattle.std.specs.Ordering.{nat_cmp, on}
+use Rattle.html_tree.specs.declared.spelled.SpelledName.{SpelledName}
+use Rattle.html_tree.specs.Spelled.{lower_of}
+use Rattle.html_tree.specs.LaterNames.{names_in, as_read, AreLater}
 
 -- only which names were seen counts
 pub firsts_alike : (seen other : List (List ℕ)) (attrs : List (List ℕ × List ℕ)) → ((q : List ℕ) → is_among q seen ≡ is_among q other) → firsts seen attrs ≡ firsts other attrs
@@ -134,3 +141,33 @@ later_more names name q h =
     ∙ or_back (bytes_eq q name) (is_among q (drop FEW names))
     ∙ sym (among_append q (drop FEW names) (name ∷ []))
     ∙ ap (is_among q) (sym (drop-append-le FEW names (name ∷ []) h))
+
+-- a name that is looked up and put into a set: it is new unless it was there
+pub later_again : (names : List (List ℕ)) (name q : List ℕ) → is_among name (drop FEW names) ≡ true
+    → cond (bytes_eq name q) true (is_among q (drop FEW names)) ≡ is_among q (drop FEW names)
+later_again names name q h =
+    ⊎_elim
+    (λ t. ap (λ b. cond b true (is_among q (drop FEW names))) t ∙ sym (ap (λ n. is_among n (drop FEW names)) (sym ((bytes_eq-Decides name q).0 t)) ∙ h))
+    (λ f. ap (λ b. cond b true (is_among q (drop FEW names))) f) (cases_Bool (bytes_eq name q))
+
+pub few_new : (q : List ℕ) (attrs : List (List ℕ × List ℕ)) (few : ℕ) → few ≡ min (length attrs) FEW → length attrs < FEW → is_among q (names_in (take few attrs)) ≡ false
+    → is_among q (names_in attrs) ≡ false
+few_new q attrs few e h f =
+    let short : length (names_in attrs) ≤ FEW = omega (arith, h, length-map attrs (λ (a : List ℕ × List ℕ). a.0)) in
+    sym (has_later q attrs few e f) ∙ ap (is_among q) (drop_short FEW (names_in attrs) short)
+
+-- what a set has after this name is put into it
+pub inserted : (later next : BTreeSet SpelledName) (names : List (List ℕ)) (name q : SpelledName) → AreLater later names
+    → contains (on lower_of (slice_cmp nat_cmp)) next q ≡ cond (is_at (on lower_of (slice_cmp nat_cmp) name) q) true (contains (on lower_of (slice_cmp nat_cmp)) later q)
+    → contains (on lower_of (slice_cmp nat_cmp)) next q ≡ cond (bytes_eq (lower_of name) (lower_of q)) true (is_among (lower_of q) (drop FEW names))
+inserted later next names name q a e =
+    e ∙ ap (λ b. cond b true (contains (on lower_of (slice_cmp nat_cmp)) later q)) (is_eq-slice_cmp (lower_of name) (lower_of q))
+    ∙ ap (λ b. cond (bytes_eq (lower_of name) (lower_of q)) true b) (a q)
+
+pub not_false : (b : Bool) → false ≡ not b → b ≡ true
+not_false true e = refl
+not_false false e = cc
+
+pub not_true : (b : Bool) → true ≡ not b → b ≡ false
+not_true true e = cc
+not_true false e = refl

@@ -3,7 +3,7 @@ use Rattle.std.proofs.Common.{◌≡◌, ℕ, suc, ◌≤◌, true, false, cond,
 use Rattle.std.proofs.lemmas.List.{append-nil, map-append, take-map, length-take, length-map}
 use Rattle.page_tree.specs.Forest.{Content}
 use Rattle.html_meaning.specs.Tokens.{tokens, Piece, Token, Start, End, Chars, Comment, Doctype, Cut}
-use Rattle.html_meaning.specs.Page.{OpenElement, Role, Opens, Ends, Leaf, Nothing, by_depth, fragment, role_of, content_of, left_by, opened, nodes_from, with_node, number_behind}
+use Rattle.html_meaning.specs.Page.{OpenElement, Role, Opens, Ends, Leaf, Nothing, by_depth, fragment, innermost, role_of, content_of, left_by, opened, nodes_from, with_node, number_behind}
 use Rattle.html_tree.specs.Rising.{Rises}
 use Rattle.html_tree.specs.Chain.{AreOpen, Leaves, element_names}
 use Rattle.html_tree.proofs.Closing.{Below, Below-more}
@@ -49,20 +49,48 @@ opened_known role number count names elements k b =
     opened_rises Leaf number under r b = as_it_is number under r b
     opened_rises Nothing number under r b = as_it_is number under r b
 
-front_long : (names : List (List ℕ)) (elements : List OpenElement) (count : ℕ) → AreOpen names elements → count ≤ length names → length (take count elements) ≡ count
+pub front_long : (names : List (List ℕ)) (elements : List OpenElement) (count : ℕ) → AreOpen names elements → count ≤ length names → length (take count elements) ≡ count
 front_long names elements count k h = omega (arith, h, length-take count elements, length-map elements (λ (o : OpenElement). o.name), ap length k.named)
 
--- the nodes of a token that makes one, and of those behind it
+-- the node of a token that makes one, and those behind it
+pub nodes_made : (p : Piece) (ps : List Piece) (c : Content) (number count : ℕ) (names : List (List ℕ)) (elements : List OpenElement) → AreOpen names elements
+    → Leaves (role_of p) names count → content_of p ≡ Some c
+    → nodes_from number elements (p ∷ ps)
+    ≡ record { content = c; parent = innermost 0 (take count elements); depth = length (take count elements) }
+    ∷ nodes_from (suc number) (take count elements ++ opened number (role_of p)) ps
+nodes_made p ps c number count names elements k left e =
+    let role = role_of p in
+    let under = take count elements in
+    let same : left_by role elements ≡ under = left elements k in
+    ap (λ u. with_node (content_of p) u (nodes_from (number_behind (content_of p) number) (u ++ opened number role) ps)) same
+    ∙ ap (λ o. with_node o under (nodes_from (number_behind o number) (under ++ opened number role) ps)) e
+
 nodes_at : (p : Piece) (ps : List Piece) (c : Content) (number count : ℕ) (names : List (List ℕ)) (elements : List OpenElement) → AreOpen names elements
     → Leaves (role_of p) names count → count ≤ length names → content_of p ≡ Some c
     → map by_depth (nodes_from number elements (p ∷ ps)) ≡ (count, c) ∷ map by_depth (nodes_from (suc number) (take count elements ++ opened number (role_of p)) ps)
 nodes_at p ps c number count names elements k left h e =
+    ap (map by_depth) (nodes_made p ps c number count names elements k left e)
+    ∙ ap (λ d. (d, c) ∷ map by_depth (nodes_from (suc number) (take count elements ++ opened number (role_of p)) ps)) (front_long names elements count k h)
+
+-- the nodes behind a token that makes none
+not_opened : (p : Piece) (n : ℕ) → content_of p ≡ None → opened n (role_of p) ≡ []
+not_opened (Start name attrs self_closing) n e = cc
+not_opened (End name) n e = refl
+not_opened (Chars bytes raw) n e = cc
+not_opened (Comment bytes) n e = cc
+not_opened Doctype n e = refl
+not_opened Cut n e = refl
+
+pub nodes_skipped : (p : Piece) (ps : List Piece) (number count : ℕ) (names : List (List ℕ)) (elements : List OpenElement) → AreOpen names elements
+    → Leaves (role_of p) names count → content_of p ≡ None → nodes_from number elements (p ∷ ps) ≡ nodes_from number (take count elements) ps
+nodes_skipped p ps number count names elements k left e =
     let role = role_of p in
     let under = take count elements in
     let same : left_by role elements ≡ under = left elements k in
-    ap (λ u. map by_depth (with_node (content_of p) u (nodes_from (number_behind (content_of p) number) (u ++ opened number role) ps))) same
-    ∙ ap (λ o. map by_depth (with_node o under (nodes_from (number_behind o number) (under ++ opened number role) ps))) e
-    ∙ ap (λ d. (d, c) ∷ map by_depth (nodes_from (suc number) (under ++ opened number role) ps)) (front_long names elements count k h)
+    let whole : under ++ opened number role ≡ under = ap (λ x. under ++ x) (not_opened p number e) ∙ append-nil under in
+    ap (λ u. with_node (content_of p) u (nodes_from (number_behind (content_of p) number) (u ++ opened number role) ps)) same
+    ∙ ap (λ o. with_node o under (nodes_from (number_behind o number) (under ++ opened number role) ps)) e
+    ∙ ap (λ u. nodes_from number u ps) whole
 
 pub kept_node : (names after : List (List ℕ)) (t : Token) (left : List Token) (out all : List (ℕ × Content)) (count : ℕ) (c : Content) → Kept names (t ∷ left) out all
     → Leaves (role_of t.piece) names count → count ≤ length names → content_of t.piece ≡ Some c
@@ -90,36 +118,18 @@ kept_next names t left out all count c k l h e = (
   sym k.done ∙ ap (λ x. out ++ x) (nodes_at t.piece (pieces left) c k.number count names k.elements k.known l h e),
 )
 
-not_opened : (p : Piece) (n : ℕ) → content_of p ≡ None → opened n (role_of p) ≡ []
-not_opened (Start name attrs self_closing) n e = cc
-not_opened (End name) n e = refl
-not_opened (Chars bytes raw) n e = cc
-not_opened (Comment bytes) n e = cc
-not_opened Doctype n e = refl
-not_opened Cut n e = refl
-
 pub kept_none : (names : List (List ℕ)) (t : Token) (left : List Token) (out all : List (ℕ × Content)) (count : ℕ) → Kept names (t ∷ left) out all
     → Leaves (role_of t.piece) names count → content_of t.piece ≡ None → Kept (take count names) left out all
-kept_none names t left out all count k l e =
-    let role = role_of t.piece in
-    let under = take count k.elements in
-    let same : left_by role k.elements ≡ under = l k.elements k.known in
-    let whole : under ++ opened k.number role ≡ under = ap (λ x. under ++ x) (not_opened t.piece k.number e) ∙ append-nil under in
-    record {
-      number = k.number;
-      elements = under;
-      known = record {
-        named = sym (take-map (λ (o : OpenElement). o.name) count k.elements) ∙ ap (take count) k.known.named;
-        rises = rises-take count 0 k.elements k.known.rises;
-      };
-      below = below-take count k.number k.elements k.below;
-      done =
-          ap (λ x. out ++ x)
-          (sym (ap (λ u. map by_depth (with_node (content_of t.piece) u (nodes_from (number_behind (content_of t.piece) k.number) (u ++ opened k.number role) (pieces left)))) same
-          ∙ ap (λ o. map by_depth (with_node o under (nodes_from (number_behind o k.number) (under ++ opened k.number role) (pieces left)))) e
-          ∙ ap (λ u. map by_depth (nodes_from k.number u (pieces left))) whole))
-          ∙ k.done;
-    }
+kept_none names t left out all count k l e = record {
+  number = k.number;
+  elements = take count k.elements;
+  known = record {
+    named = sym (take-map (λ (o : OpenElement). o.name) count k.elements) ∙ ap (take count) k.known.named;
+    rises = rises-take count 0 k.elements k.known.rises;
+  };
+  below = below-take count k.number k.elements k.below;
+  done = ap (λ ns. out ++ map by_depth ns) (sym (nodes_skipped t.piece (pieces left) k.number count names k.elements k.known l e)) ∙ k.done;
+}
 
 -- behind the last token
 pub kept_all : (names : List (List ℕ)) (out all : List (ℕ × Content)) → Kept names [] out all → out ≡ all

@@ -126,17 +126,20 @@ size-with_nodes_at number [] f = omega arith
 size-with_nodes_at number (n ∷ part) f =
     omega (arith, size-with_nodes_at (suc number) part (hung n.0 (node number n.1 empty empty) f), size-hung n.0 (node number n.1 empty empty) f)
 
+-- before the first token
+pub goes_start : Goes 1 [] empty
+goes_start = record {
+  spine = tt;
+  rises = tt;
+  below = tt;
+  once = λ k. (let p : same k 0 ≤ 1 = same_cases k 0 (λ n. n ≤ 1) (λ _. omega arith) (λ _. omega arith) in omega (arith, p));
+  free = λ k h. (let p : same k 0 ≡ 0 = same_cases k 0 (λ n. n ≡ 0) (λ e. absurd (omega arith)) (λ _. refl) in omega (arith, p));
+}
+
 -- the tree of a page is its fragment, put into the empty tree
 pub page_is_fragment : (source : List ℕ) → page source ≡ with_fragment 0 0 (fragment source) (record { nodes = empty; next = 1 })
 page_is_fragment source =
     let nodes = nodes_of source in
     let part = map by_depth nodes in
-    let start : Goes 1 [] empty = record {
-      spine = tt;
-      rises = tt;
-      below = tt;
-      once = λ k. (let p : same k 0 ≤ 1 = same_cases k 0 (λ n. n ≤ 1) (λ _. omega arith) (λ _. omega arith) in omega (arith, p));
-      free = λ k h. (let p : same k 0 ≡ 0 = same_cases k 0 (λ n. n ≡ 0) (λ e. absurd (omega arith)) (λ _. refl) in omega (arith, p));
-    } in
-    by_parents_is_by_depths (map (λ (t : Token). t.piece) (tokens source)) 1 [] empty start
+    by_parents_is_by_depths (map (λ (t : Token). t.piece) (tokens source)) 1 [] empty goes_start
     ∙ ap (λ n. record { nodes = fragment_nodes 1 part; next = n }) (let e : 1 + length nodes ≡ 1 + size (fragment_nodes 1 part) = omega (arith, size-with_nodes_at 1 part empty, length-map nodes by_depth) in e)

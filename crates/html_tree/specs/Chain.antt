@@ -13,6 +13,10 @@ names_of chain = map (λ (name : Bor (List ℕ)). str_to_ascii_lowercase name.no
 abbrev pub element_names : List OpenElement → List (List ℕ)
 element_names elements = map (λ (o : OpenElement). o.name) elements
 
+-- the numbers of open elements
+abbrev pub element_numbers : List OpenElement → List ℕ
+element_numbers elements = map (λ (o : OpenElement). o.number) elements
+
 -- open elements with these names, whose numbers rise
 pub record AreOpen (names : List (List ℕ)) (elements : List OpenElement) : Type 0 where
   pub named : element_names elements ≡ names

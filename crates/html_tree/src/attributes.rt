@@ -1,11 +1,13 @@
 // The attributes of an element.
 
-ghost use Rattle.std.specs.Prelude.{◌≡◌, ◌++◌, ◌∷◌, [], ℕ, List, IfOk, OnOk};
+ghost use Rattle.std.specs.Prelude.{◌≡◌, ◌++◌, ◌∷◌, [], ℕ, List, true, false, not, IfOk, OnOk};
+ghost use Rattle.std.specs.Str.{str_to_ascii_lowercase};
 ghost use Rattle.html_meaning.specs.Bytes.{is_among};
 ghost use Rattle.html_meaning.specs.Page.{element_attributes, firsts};
 ghost use Rattle.html_tree.specs.LaterNames.{names_in, as_read, AreLater};
 
 use crate::references::resolve;
+use crate::spelled::SpelledName;
 use dom_arena::Attrs;
 use html_tokens::next_attribute;
 use listed::Text;
@@ -28,39 +30,37 @@ fn is_name_among(name: &str, attrs: &[(Text, Text)]) -> bool
     false
 }
 
-/// Whether an attribute has this name, where `later` has the names of all but the first few.
-fn has(attrs: &Attrs, later: &BTreeSet<String>, name: &str) -> bool
-    requires { AreLater later.now (names_in attrs.now) }
-    ensures { result ≡ is_among name.now (names_in attrs.now) }
+/// Whether the name of an attribute that comes next, which is `lower` in lower case, is new. `later` has the names of all but
+/// the first few before it, and then this one too, unless it is among those.
+fn is_new<'a>(
+    attrs: &Attrs,
+    later: &mut BTreeSet<SpelledName<'a>>,
+    name: &'a str,
+    lower: &str,
+) -> Result<bool, AllocError>
+    requires later { AreLater later.old (names_in attrs.now) }
+    requires lower { lower.now ≡ str_to_ascii_lowercase name.now }
+    ensures new { IfOk result (λ is_new. is_new ≡ not (is_among lower.now (names_in attrs.now))) }
+    ensures kept { IfOk result (λ is_new. is_new ≡ false → AreLater later.new (names_in attrs.now)) }
+    ensures more { IfOk result (λ is_new. is_new ≡ true → AreLater later.new (names_in attrs.now ++ lower.now ∷ [])) }
 {
     let few = attrs.len().min(FEW);
-    is_name_among(name, &attrs.as_slice()[..few]) || later.contains(name)
-}
-
-/// Takes the name of an attribute that comes next into `later`, if it isn't one of the first few.
-fn keep_later(
-    alloc: Global,
-    attrs: &Attrs,
-    later: &mut BTreeSet<String>,
-    name: &str,
-) -> Result<(), AllocError>
-    requires { AreLater later.old (names_in attrs.now) }
-    ensures { OnOk result (AreLater later.new (names_in attrs.now ++ name.now ∷ [])) }
-{
-    if attrs.len() < FEW {
-        return Ok(());
+    if is_name_among(lower, &attrs.as_slice()[..few]) {
+        return Ok(false);
     }
-    let copy = String::from_str(alloc, name)?;
-    later.insert(copy)?;
-    Ok(())
+    if attrs.len() < FEW {
+        return Ok(true);
+    }
+    let is_new = later.insert(SpelledName { spelled: name })?;
+    Ok(is_new)
 }
 
 /// Adds an attribute, its name in lower case and the references in its value resolved, unless its name was there before.
-fn push_attr(
+fn push_attr<'a>(
     alloc: Global,
     attrs: &mut Attrs,
-    later: &mut BTreeSet<String>,
-    name: &str,
+    later: &mut BTreeSet<SpelledName<'a>>,
+    name: &'a str,
     value: &str,
 ) -> Result<(), AllocError>
     requires { AreLater later.old (names_in attrs.old) }
@@ -68,13 +68,12 @@ fn push_attr(
     ensures attrs { OnOk result ((rest : List (List ℕ × List ℕ)) →
         attrs.old ++ firsts (names_in attrs.old) (as_read (name.now, value.now) ∷ rest) ≡ attrs.new ++ firsts (names_in attrs.new) rest) }
 {
-    let name = Text::lower(alloc, name)?;
-    if has(attrs, later, name.as_str()) {
+    let lower = Text::lower(alloc, name)?;
+    if !is_new(attrs, later, name, lower.as_str())? {
         return Ok(());
     }
-    keep_later(alloc, attrs, later, name.as_str())?;
     let value = resolve(alloc, value)?;
-    attrs.push((name, value))?;
+    attrs.push((lower, value))?;
     Ok(())
 }
 

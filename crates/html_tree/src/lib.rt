@@ -10,6 +10,7 @@ mod attributes;
 mod chain;
 mod reader;
 mod references;
+mod spelled;
 mod tables;
 
 pub use reader::{PageError, read_fragment, read_page};

@@ -1,23 +1,27 @@
 // Pages and fragments, read by the chain of open elements.
 
-ghost use Rattle.std.specs.Prelude.{◌≡◌, ◌≤◌, ◌+◌, ◌++◌, ◌∷◌, [], ℕ, List, Some, cond, length, map, MatchOption, IfOk, OnOk, IsOkUnless, IsErrAnd, option_map};
+ghost use Rattle.std.specs.Prelude.{◌≡◌, ◌≤◌, ◌+◌, ◌++◌, ◌∷◌, [], ◌<◌, ◌-◌, ℕ, List, Some, cond, length, map, slice_index, MatchOption, IfOk, OnOk, IsOkUnless, IsErrAnd, option_map};
 ghost use Rattle.std.specs.Str.{str_to_ascii_lowercase};
-ghost use Rattle.page_tree.specs.Fragments.{IsFragment, limit_passed};
-ghost use Rattle.dom_arena.specs.Contents.{new_content, new_nodes};
+ghost use Rattle.page_tree.specs.Fragments.{IsFragment, limit_passed, with_fragment};
+ghost use Rattle.dom_arena.specs.Contents.{new_content, new_nodes, single};
+ghost use Rattle.dom_arena.specs.Refusals.{error_of as dom_error};
+ghost use Rattle.page_tree.specs.Refusals.{graft_refused};
+ghost use Rattle.page_tree.specs.Edits.{appended, children_of};
+ghost use Rattle.page_tree.specs.Trees.{IsOrdinary};
 ghost use Rattle.html_meaning.specs.Page.{role_of, opened, content_of, fragment, page};
 ghost use Rattle.html_meaning.specs.References.{resolved};
-ghost use Rattle.page_tree.specs.Forest.{text};
+ghost use Rattle.page_tree.specs.Forest.{text, empty};
 ghost use Rattle.html_tokens.specs.Seen.{token_of};
 ghost use Rattle.html_tokens.specs.declared.tokens.Token.TheVariants.{Start};
-ghost use Rattle.html_tree.specs.Chain.{names_of, element_names, Leaves};
-ghost use Rattle.html_tree.specs.Limits.{page_error, next_limit, FailsWith};
+ghost use Rattle.html_tree.specs.Chain.{element_names, element_numbers, Leaves};
+ghost use Rattle.html_tree.specs.Limits.{page_error, error_of, next_limit, FailsWith};
 ghost use Rattle.html_tree.specs.declared.reader.PageError.TheVariants.{NoMemory};
 
 use crate::attributes::attrs_of;
-use crate::chain::{left_by_end, left_by_start};
+use crate::chain::OpenNames;
 use crate::references::resolve;
 use crate::tables::has_content;
-use dom_arena::{Dom, Fragment, NewNode};
+use dom_arena::{Dom, DomError, Fragment, NewNode};
 use html_tokens::{Tag, Token, Tokens};
 use listed::Text;
 use page_tree::{DEPTH_LIMIT, NODE_LIMIT};
@@ -46,13 +50,13 @@ impl From<AllocError> for PageError {
 }
 
 /// How many of the open elements a token leaves.
-fn left_by(chain: &[&str], token: Token) -> usize
+fn left_by(chain: &OpenNames, token: Token) -> usize
     ensures within { result ≤ length chain.now }
-    ensures left { Leaves (role_of (token_of token.entry).piece) (names_of chain.now) result }
+    ensures left { Leaves (role_of (token_of token.entry).piece) chain.now result }
 {
     match token {
-        Token::Start(tag) => left_by_start(chain, tag.name),
-        Token::End { name, span: _ } => left_by_end(chain, name),
+        Token::Start(tag) => chain.left_by_start(tag.name),
+        Token::End { name, span: _ } => chain.left_by_end(name),
         Token::Chars {
             text: _,
             raw: _,
@@ -80,8 +84,8 @@ fn opened<'a>(token: Token<'a>) -> Option<&'a str>
 }
 
 /// Puts the element that a token opens behind the open ones, if it opens one.
-fn open_element<'a>(chain: &mut Vec<&'a str>, token: Token<'a>) -> Result<(), AllocError>
-    ensures { OnOk result ((n : ℕ) → names_of chain.new.items ≡ names_of chain.old.items ++ element_names (opened n (role_of (token_of token.entry).piece))) }
+fn open_element<'a>(chain: &mut OpenNames<'a>, token: Token<'a>) -> Result<(), AllocError>
+    ensures { OnOk result ((n : ℕ) → chain.new ≡ chain.old ++ element_names (opened n (role_of (token_of token.entry).piece))) }
 {
     if let Some(name) = opened(token) {
         chain.push(name)?;
@@ -168,7 +172,7 @@ fn push_node(
 
 /// The nodes of a source, for a place whose parent has this depth in a tree of `live` nodes. The source is gone through once,
 /// and no further than the first node that passes a limit of trees, which is the answer then. There are no more nodes than
-/// the source has bytes.
+/// the source has bytes, and put into the empty tree they are the page that the source is.
 pub fn read_fragment(
     alloc: Global,
     source: &str,
@@ -180,9 +184,10 @@ pub fn read_fragment(
     ensures nodes { IfOk result (λ part. new_nodes part ≡ fragment source.now) }
     ensures fragment { IfOk result (λ part. IsFragment (new_nodes part)) }
     ensures few { IfOk result (λ part. length part ≤ length source.now) }
+    ensures page { IfOk result (λ part. with_fragment 0 0 (new_nodes part) (record { nodes = empty; next = 1 }) ≡ page source.now) }
 {
     let mut tokens = Tokens::new(source);
-    let mut chain: Vec<&str> = Vec::new(alloc);
+    let mut chain = OpenNames::new(alloc);
     let mut part = Fragment::new(alloc);
     while let Some(token) = tokens.next() {
         let left = left_by(&chain, token);
@@ -195,18 +200,73 @@ pub fn read_fragment(
     Ok(part)
 }
 
+/// The number of the innermost open element, or of the document.
+fn innermost(numbers: &[u32]) -> u32
+    ensures { result ≡ slice_index numbers.now (length numbers.now - 1) }
+{
+    match numbers {
+        [] => 0,
+        _ => numbers[numbers.len() - 1],
+    }
+}
+
+/// Puts the number of the element that a token opens behind the others, if it opens one.
+fn keep_number(numbers: &mut Vec<u32>, token: Token, number: u32) -> Result<(), AllocError>
+    ensures { OnOk result (numbers.new.items ≡ numbers.old.items ++ element_numbers (opened number (role_of (token_of token.entry).piece))) }
+{
+    if let Some(_name) = opened(token) {
+        numbers.push(number)?;
+    }
+    Ok(())
+}
+
+/// The error of a page by that of its arena. The places of nodes are there, so that a limit is passed or there is no memory.
+fn error_of(error: DomError) -> PageError
+    ensures { result ≡ error_of error }
+{
+    match error {
+        DomError::TooDeep => PageError::TooDeep,
+        DomError::TooManyNodes => PageError::TooManyNodes,
+        _ => PageError::NoMemory,
+    }
+}
+
+/// Puts a node behind the last child of `parent`.
+fn put(dom: &mut Dom, parent: u32, node: NewNode) -> Result<u32, PageError>
+    requires number { dom.old.next < 4294967295 }
+    requires ordinary { IsOrdinary (new_content node) }
+    ensures answer { MatchOption (graft_refused parent (children_of parent dom.old) ((0, new_content node) ∷ []) dom.old)
+        (IsOkUnless result PageError.NoMemory) (λ refusal. result ≡ Err (error_of (dom_error refusal))) }
+    ensures number { IfOk result (λ n. n ≡ dom.old.next) }
+    ensures tree { OnOk result (dom.new ≡ appended parent (single dom.old.next node) dom.old) }
+{
+    match dom.append(parent, node) {
+        Ok(number) => Ok(number),
+        Err(error) => Err(error_of(error)),
+    }
+}
+
 /// The tree of a page. The source is gone through once, and no further than the first node that passes a limit of trees,
-/// which is the answer then.
+/// which is the answer then. The nodes are put into the tree as they come.
 pub fn read_page(alloc: Global, source: &str) -> Result<Dom, PageError>
     ensures answer { MatchOption (limit_passed 0 0 (fragment source.now))
         (IsOkUnless result PageError.NoMemory) (λ limit. FailsWith result (page_error limit)) }
     ensures tree { IfOk result (λ dom. dom ≡ page source.now) }
 {
-    let part = read_fragment(alloc, source, 0, 0)?;
+    let mut tokens = Tokens::new(source);
+    let mut chain = OpenNames::new(alloc);
+    let mut numbers: Vec<u32> = Vec::new(alloc);
     let mut dom = Dom::new(alloc)?;
-    match dom.graft(0, 0, part) {
-        Ok(_) => Ok(dom),
-        // the nodes pass no limit, and the document is there, so that there was no memory
-        Err(_) => Err(PageError::NoMemory),
+    while let Some(token) = tokens.next() {
+        let left = left_by(&chain, token);
+        chain.truncate(left);
+        numbers.truncate(left);
+        if let Some(node) = node_of(alloc, token)? {
+            let parent = innermost(numbers.as_slice());
+            let number = put(&mut dom, parent, node)?;
+            open_element(&mut chain, token)?;
+            keep_number(&mut numbers, token, number)?;
+        }
     }
+    Ok(dom)
 }

@@ -147,7 +147,7 @@ module _ (t : Tree) (path : Bytes) where
     by_law : (m : StepMeaning) → meaning t path last ≡ m → is_in (reached t path steps) x ≡ is_in (m.push (reached t path before)) x
     by_law m e = ap (λ (s : List ℕ). is_in s x) (reached-last t path steps before last is ∙ ap (λ (n : StepMeaning). n.push (reached t path before)) e)
 
-    keep_law : (q : Test) → last ≡ step.Keep q → is_in (reached t path steps) x ≡ (is_in (reached t path before) x && holds pattern_found t path q x)
+    pub keep_law : (q : Test) → last ≡ step.Keep q → is_in (reached t path steps) x ≡ (is_in (reached t path before) x && holds pattern_found t path q x)
     keep_law q e =
         by_law _ (ap (meaning t path) e ∙ step_of-Keep pattern_found t path q) ∙ is_in-filter (holds pattern_found t path q) (reached t path before) x
 
@@ -259,7 +259,7 @@ module _ (t : Tree) (path : Bytes) where
       front_law : (m : StepMeaning) → meaning t path first ≡ m → leads_from t path steps x ≡ list_any (leads_from t path more) (m.push (x ∷ []))
       front_law m e = leads-first t path patterns steps more first is inner x ∙ ap (λ (n : StepMeaning). list_any (leads_from t path more) (n.push (x ∷ []))) e
 
-      keep_front : (q : Test) → first ≡ step.Keep q → leads_from t path steps x ≡ (holds pattern_found t path q x && leads_from t path more x)
+      pub keep_front : (q : Test) → first ≡ step.Keep q → leads_from t path steps x ≡ (holds pattern_found t path q x && leads_from t path more x)
       keep_front q e =
           front_law _ (ap (meaning t path) e ∙ step_of-Keep pattern_found t path q)
           ∙ elim (holds pattern_found t path q x) as (λ b. list_any (leads_from t path more) (cond b (x ∷ []) []) ≡ (b && leads_from t path more x)) [

@@ -1,18 +1,22 @@
 -- What a put of a pattern says of this table and of each later one.
-use Rattle.std.proofs.Common.{◌≡◌, ◌↔◌, ◌+◌, ◌<◌, ℕ, suc, Bool, true, false, List, [], ◌∷◌, ◌++◌, length, take, drop, get_or, Option, Some, Result, Ok, IsTrue, arith, refl, ap, sym, ◌∙◌, subst, drop-cons, add-one}
+use Rattle.std.proofs.Common.{◌≡◌, ◌↔◌, ◌+◌, ◌<◌, ◌≤◌, ℕ, suc, Bool, true, false, List, [], ◌∷◌, ◌++◌, length, take, drop, get_or, Option, Some, Result, Ok, Err, OnOk, OnErr, IsTrue, if◌then◌else◌, arith, refl, ap, sym, ◌∙◌, subst, drop-cons, add-one}
 use Rattle.std.specs.Bool.{MatchBool}
 use Rattle.std.specs.List.{All}
 use Rattle.std.specs.Option.{option_or}
-use Rattle.std.specs.Result.{IsErrOf}
+use Rattle.std.specs.Result.{IsErrOf, is_ok}
+use Rattle.std.proofs.lemmas.List.{drop_all}
 use Rattle.std.proofs.lemmas.Grind.{common_steps}
 use Rattle.std.proofs.lemmas.List.Elements.{All-weaker, All-more}
 use Rattle.cos_patterns.specs.declared.errors.PatternError.{PatternError}
 use Rattle.cos_patterns.specs.declared.errors.PatternError.TheVariants.{BadPattern, PatternTooLarge}
+use Rattle.cos_patterns.specs.declared.errors.PatternError.TheVariants as errors
 use Rattle.cos_patterns.specs.declared.written.Asked.{Asked}
+use Rattle.cos_patterns.specs.declared.written.Asked.TheVariants.{Pattern}
 use Rattle.cos_patterns.specs.declared.written.Written.{Written}
 use Rattle.cos_patterns.specs.Found.{is_read}
-use Rattle.cos_patterns.specs.Tables.{Noted, Agrees, Extends, patterns_in, said_by, said_of, held}
-use Rattle.cos_patterns.specs.Written.{written, is_in, place_of}
+use Rattle.cos_patterns.specs.Makers.{UnlessNoMemory}
+use Rattle.cos_patterns.specs.Tables.{Noted, Agrees, Extends, is_noted, patterns_in, said_by, said_of, held, with_pattern}
+use Rattle.cos_patterns.specs.Written.{written, is_in, is_same, place_of}
 use Rattle.cos_patterns.proofs.Extensions.{extends_through}
 use Rattle.cos_patterns.proofs.Places.{has_place}
 use Rattle.selector_spelling.specs.declared.finding.Finding.{Finding}
@@ -104,16 +108,53 @@ module _ {Maker : Type 0} (asks : Maker → Asked → Maker → Type 0) (all ask
     (is : ask ≡ get_or asked place ask) (first table next : Noted) (first_maker maker between : Maker)
     (puts : Puts asks (written ask.body ask.flags) table maker next between)
     (before : GoOn asks (drop place asked) table maker all first first_maker) where
-  abbrev held : Bool
-  held = is_in (written ask.body ask.flags) next.patterns
+  abbrev holds : Bool
+  holds = is_in (written ask.body ask.flags) next.patterns
 
-  next_leaves : (after : Noted) (now : Maker) → MatchBool held (PutsEach asks (drop (place + 1) asked) next between after now) ((after ≡ next) × (now ≡ between)) →
+  next_leaves : (after : Noted) (now : Maker) → MatchBool holds (PutsEach asks (drop (place + 1) asked) next between after now) ((after ≡ next) × (now ≡ between)) →
       PutsEach asks all first first_maker after now
   next_leaves after now rest =
       before after now (subst (λ (left : List Ask). PutsEach asks left table maker after now) (sym (at_place asked place ask ask within is)) (next, between, puts, rest))
 
-  pub found_goes_on : held ≡ true → GoOn asks (drop (place + 1) asked) next between all first first_maker
+  pub found_goes_on : holds ≡ true → GoOn asks (drop (place + 1) asked) next between all first first_maker
   found_goes_on is_held = λ after now rest. next_leaves after now (rw is_held rest)
 
-  pub refused_ends : held ≡ false → PutsEach asks all first first_maker next between
+  pub refused_ends : holds ≡ false → PutsEach asks all first first_maker next between
   refused_ends not_held = next_leaves next between (rw not_held (refl, refl))
+
+-- all patterns were put
+pub all_put : {Maker : Type 0} (asks : Maker → Asked → Maker → Type 0) (all asked : List Ask) (place : ℕ) (first table : Noted) (first_maker maker : Maker) →
+    length asked ≤ place → GoOn asks (drop place asked) table maker all first first_maker → PutsEach asks all first first_maker table maker
+all_put asks all asked place first table first_maker maker behind before =
+    before table maker (subst (λ (left : List Ask). PutsEach asks left table maker table maker) (sym (drop_all place asked behind)) (refl, refl))
+
+-- what a put says of the table and of the maker
+module _ {Maker : Type 0} (asks : Maker → Asked → Maker → Type 0) (key : Written) (table after : Noted) (maker now : Maker)
+    (kept : IsTrue (is_noted key table) → after ≡ table) (once : IsTrue (is_noted key table) → now ≡ maker)
+    (others : (other : Written) → is_same key other ≡ false → said_of other after ≡ said_of other table) where
+  pattern_by : (is_held : Bool) (with_it without : List Written) → is_in key after.patterns ≡ is_held →
+      after.patterns ≡ (if is_held then with_it else without) → after.patterns ≡ (if is_in key after.patterns then with_it else without)
+  pattern_by is_held with_it without same is = is ∙ sym (ap (λ (c : Bool). if c then with_it else without) same)
+
+  pub puts_by : (result : Result ℕ PatternError) → (is_noted key table ≡ false → UnlessNoMemory result (asks maker (Pattern key) now)) →
+      is_in key after.patterns ≡ is_ok result → OnOk result (after.patterns ≡ with_pattern key table.patterns) → OnErr result (after.patterns ≡ table.patterns) →
+      UnlessNoMemory result (Puts asks key table maker after now)
+  puts_by (Ok number) new same ok err = record {
+    noted = λ h. (kept h, once h);
+    new = new;
+    patterns = pattern_by true (with_pattern key table.patterns) table.patterns same ok;
+    others = others;
+  }
+  puts_by (Err BadPattern) new same ok err = record {
+    noted = λ h. (kept h, once h);
+    new = new;
+    patterns = pattern_by false (with_pattern key table.patterns) table.patterns same err;
+    others = others;
+  }
+  puts_by (Err PatternTooLarge) new same ok err = record {
+    noted = λ h. (kept h, once h);
+    new = new;
+    patterns = pattern_by false (with_pattern key table.patterns) table.patterns same err;
+    others = others;
+  }
+  puts_by (Err errors.NoMemory) new same ok err = tt

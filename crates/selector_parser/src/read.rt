@@ -39,8 +39,7 @@ pub fn read_selector<M: Maker>(
     requires agrees { Agrees table.old (M.large maker.old) (M.unread maker.old) }
     ensures agrees { Agrees table.new (M.large maker.new) (M.unread maker.new) }
     ensures extends { Extends table.old table.new }
-    ensures answer { IfOk result (λ read. unnumbered_read read ≡ read_by (M.large maker.new) (M.unread maker.new) text.now) }
-    // The answer stays true for what the table notes later.
+    // The answer is under what the maker refused, in this call or before, and stays true for what the table notes later.
     ensures lasting { IfOk result (λ read. Lasts table.new (λ large unread. unnumbered_read read ≡ read_by large unread text.now)) }
     ensures proper { IfOk result (IsProperRead table.new.patterns) }
     ensures within { IfOk result (PlaceBy (length text.now)) }

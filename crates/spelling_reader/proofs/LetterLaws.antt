@@ -49,7 +49,7 @@ plain_read b text e =
 no_digits : (text : Bytes) (count : ℕ) → count ≡ length (hex_front 6 text) → count ≤ 0 → hex_front 6 text ≡ []
 no_digits text count count-is none = nil_from_length (hex_front 6 text) (omega (arith, count-is, none))
 
-pub by_character : (text rest : Bytes) (c count : ℕ) → count ≡ length (hex_front 6 text) → count ≤ 0 → text ≡ encode_utf8 c ++ rest → IsEscape text rest c
+by_character : (text rest : Bytes) (c count : ℕ) → count ≡ length (hex_front 6 text) → count ≤ 0 → text ≡ encode_utf8 c ++ rest → IsEscape text rest c
 by_character text rest c count count-is none e =
     let f = first-byte text rest c e in
     let empty : hex_front 6 (f.byte ∷ (f.tail ++ rest)) ≡ [] = ap (hex_front 6) (sym f.from) ∙ no_digits text count count-is none in
@@ -63,8 +63,14 @@ by_character text rest c count count-is none e =
     }
 
 -- nothing stands behind a `\` at the end of a text
-pub no_escape : (text : Bytes) → text ≡ [] → escape text ≡ None
+no_escape : (text : Bytes) → text ≡ [] → escape text ≡ None
 no_escape text e = ap escape e
+
+-- by the first character, where no digit stands
+pub first_escape : (text : Bytes) (count : ℕ) (r : Option (ℕ × Bor Bytes)) → count ≡ length (hex_front 6 text) → count ≤ 0
+    → MatchOption r (text ≡ []) (λ p. text ≡ encode_utf8 p.0 ++ p.1.now) → MatchOption r (escape text ≡ None) (λ p. IsEscape text p.1.now p.0)
+first_escape text count None count-is none e = no_escape text e
+first_escape text count (Some p) count-is none e = by_character text p.1.now p.0 count count-is none e
 
 -- ---- letters
 

@@ -1,7 +1,7 @@
-ghost use Rattle.std.specs.Prelude.{◌≡◌, ◌-◌, ◌<◌, ◌≤◌, ◌^◌, zero, true, [], ◌++◌, length, take, drop, slice_index, encode_utf8, Some, None, IfOk, MatchOption};
+ghost use Rattle.std.specs.Prelude.{◌≡◌, ◌-◌, ◌<◌, ◌≤◌, ◌^◌, zero, true, not, ◌&&◌, [], ◌++◌, length, take, drop, slice_index, encode_utf8, Some, None, IfOk, MatchOption};
 ghost use Rattle.std.specs.Char.{digit_value, is_ascii_hexdigit};
 ghost use Rattle.selector_tree.specs.Letters.{is_name_byte};
-ghost use Rattle.selector_spelling.specs.Bytes.{front, number};
+ghost use Rattle.selector_spelling.specs.Bytes.{begins_with, front, number};
 ghost use Rattle.selector_spelling.specs.Names.{character, space_length, escape, onto, run, string, begins_behind_minus, begins_name, name};
 ghost use Rattle.spelling_reader.specs.Letters.{stands, IsEscape, IsLetter, HasNoLetter};
 
@@ -119,6 +119,13 @@ fn stands(plain: Plain, c: char) -> bool
     }
 }
 
+/// Whether U+0000 stands at the front, where it may not: it is no part of a name, also behind `\`.
+fn refuses(plain: Plain, text: &str) -> bool
+    ensures { result ≡ (not (stands plain 0) && begins_with 0 text.now) }
+{
+    !stands(plain, '\0') && begins_with(0, text.as_bytes())
+}
+
 /// The letter at the front of a text, and what stands behind it.
 fn letter(plain: Plain, text: &str) -> Option<(char, &str)>
     ensures { MatchOption result (HasNoLetter (stands plain) text.now) (λ p. IsLetter (stands plain) text.now p.1.now p.0) }
@@ -130,8 +137,7 @@ fn letter(plain: Plain, text: &str) -> Option<(char, &str)>
     if c != '\\' {
         return None;
     }
-    // U+0000 is no part of a name.
-    if !stands(plain, '\0') && begins_with(0, rest.as_bytes()) {
+    if refuses(plain, rest) {
         return None;
     }
     escape(rest)

@@ -1,9 +1,9 @@
-use Rattle.std.proofs.Common.{◌≡◌, ℕ, ◌+◌, ◌<◌, ◌≤◌, ap, arith}
+use Rattle.std.proofs.Common.{◌≡◌, ◌+◌, ap, arith}
 use Rattle.page_tree.specs.Forest.{rooted, height, depth_in}
 use Rattle.page_tree.specs.Edits.{subtree}
+use Rattle.page_tree.proofs.Depths.{depth_in-height}
 use Rattle.dom_arena.specs.Linked.{tree_of}
 use Rattle.dom_arena.specs.Parts.{part_from}
-use Rattle.dom_arena.proofs.Depths.{depth_in-height}
 use Rattle.dom_arena.proofs.Moved.{height-subtree, part_under}
 use Rattle.dom_arena.proofs.Moving.{part_too_deep, part_fits}
 use Rattle.dom_arena.proofs.Parting.{height-size}

@@ -1,6 +1,6 @@
-use Rattle.std.proofs.Common.{◌≡◌, ◌<◌, ◌≤◌, Some, sym, ◌∙◌, ap, arith, rules}
+use Rattle.std.proofs.Common.{◌≡◌, ◌≤◌, Some, sym, ◌∙◌, ap, arith, rules}
 use Rattle.std.specs.Prelude.{option_map}
-use Rattle.page_tree.specs.Forest.{rooted, height, count, depth_in}
+use Rattle.page_tree.specs.Forest.{height, count}
 use Rattle.page_tree.specs.Edits.{subtree, children_of, detached}
 use Rattle.page_tree.specs.Refusals.{too_deep, relink_refused}
 use Rattle.page_tree.proofs.Keeps.{shallow}

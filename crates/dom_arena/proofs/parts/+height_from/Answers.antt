@@ -1,5 +1,5 @@
-use Rattle.std.proofs.Common.{◌≡◌, ℕ, ◌+◌, ◌<◌, ◌≤◌, max, refl, sym, ◌∙◌, ap, arith}
-use Rattle.page_tree.specs.Forest.{size, height}
+use Rattle.std.proofs.Common.{◌≡◌, ◌<◌, refl, arith}
+use Rattle.page_tree.specs.Forest.{size}
 use Rattle.dom_arena.specs.Slots.{slot_at}
 use Rattle.dom_arena.specs.Parts.{part_from}
 use Rattle.dom_arena.proofs.Parting.{opened, height-size}

@@ -1,10 +1,9 @@
-use Rattle.std.proofs.Common.{◌≡◌, ℕ, suc, ◌+◌, ◌≤◌, List, length, sym, ◌∙◌, ap, subst, arith, length-set}
-use Rattle.page_tree.specs.Forest.{Forest, size, rooted, find, children}
+use Rattle.std.proofs.Common.{List, sym, ◌∙◌, ap, subst, arith}
+use Rattle.page_tree.specs.Forest.{Forest, size}
 use Rattle.page_tree.specs.Edits.{without}
 use Rattle.dom_arena.specs.declared.table.Slot.{Slot}
 use Rattle.dom_arena.specs.Linked.{Stands, tree_of}
 use Rattle.dom_arena.specs.Slots.{slot_at, past}
-use Rattle.dom_arena.specs.Numbering.{cleared}
 use Rattle.dom_arena.specs.Parts.{part_from, HoldPart, AreCleared}
 use Rattle.dom_arena.proofs.Detached.{part_below, Stands-detached, sizes}
 use Rattle.dom_arena.proofs.parts.take_out.Goals as goal

@@ -4,7 +4,7 @@ use Rattle.std.proofs.lemmas.List.{take_all}
 use Rattle.cos_patterns.specs.Written.{written, is_in}
 use Rattle.cos_patterns.proofs.Extensions.{extends_through}
 use Rattle.selector_spelling.specs.declared.reading.Ask.{Ask}
-use Rattle.selector_parser.proofs.Puts.{next_decides, next_held, found_goes_on, refused_ends}
+use Rattle.selector_parser.proofs.Puts.{next_decides, next_held, found_goes_on, refused_ends, all_put}
 use Rattle.selector_parser.proofs.asks.put_asks.Goals as goal
 
 -- the table extends the first one through those between
@@ -47,7 +47,9 @@ returns-in-Some-clause-asked g c =
     (rw c.in-Some.is at c.in_ok-refusal.ensures.held)
 
 pub returns-clause-asked : goal.returns-clause-asked
-returns-clause-asked g c = ?
+returns-clause-asked g c =
+    all_put g.M.Maker.asks c.args.asks.now c.args.asks.now c.loop-ask.ask-index c.args.table.now c.loop-ask.table c.args.maker.now c.loop-ask.maker
+    (omega (arith, c.loop-ask-test.false)) c.loop-ask.invariant.asked
 
 -- all patterns are held
 pub returns-clause-held : goal.returns-clause-held

@@ -1,7 +1,7 @@
 use Rattle.std.proofs.Common.{◌∙◌, ap, length}
 use Rattle.selector_spelling.specs.Bytes.{Bytes, number}
 use Rattle.spelling_reader.proofs.Hexes.{hex_front}
-use Rattle.spelling_reader.proofs.LetterLaws.{by_number, by_character}
+use Rattle.spelling_reader.proofs.LetterLaws.{by_number, first_escape}
 use Rattle.spelling_reader.proofs.names.escape.Goals as goal
 
 pub returns-then-count-gt0 : goal.returns-then-count-gt0
@@ -13,4 +13,6 @@ returns-then-count-gt0 c =
     c.split_behind.ensures.back c.behind_space.ensures c.character.ensures
 
 pub returns : goal.returns
-returns c = ?
+returns c =
+    let h = c.hex_number-number in
+    first_escape c.args.text.now h.result.1 c.split_first.result (h.ensures.count ∙ ap (λ (v : Bytes). length (hex_front 6 v)) c.as_bytes.ensures.value) c.if-count-gt0.false c.split_first.ensures

@@ -1,0 +1,4 @@
+pub mod Sensors
+pub mod Changes
+pub mod Dirty
+pub mod Nested
