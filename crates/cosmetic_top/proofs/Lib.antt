@@ -1,5 +1,6 @@
 mod Rows
 mod Few
+mod Numbers
 mod Parts
 mod Unnumbered
 mod Reports

@@ -3,6 +3,7 @@ use Rattle.std.proofs.Common.{◌≡◌, ◌++◌, ℕ, List, map, Option, Some,
 use Rattle.page_tree.specs.Forest.{Tree}
 use Rattle.cos_source.specs.Lines.{lines_of, numbered}
 use Rattle.cos_source.specs.Mark.{without_mark}
+use Rattle.mutation_script.specs.declared.page.PageState.{PageState}
 use Rattle.cos_patterns.specs.declared.written.Asked.{Asked}
 use Rattle.cos_patterns.specs.declared.written.Written.{Written}
 use Rattle.selector_tree.specs.declared.filter.Filter.{Filter}
@@ -14,18 +15,18 @@ use Rattle.cosmetic_top.specs.declared.reading.Reading.{Reading}
 use Rattle.cosmetic_top.specs.declared.status.Status.{Status}
 use Rattle.cosmetic_top.specs.Command.{Named}
 use Rattle.cosmetic_top.specs.Output.{inputs_due, report_due, output_of}
-use Rattle.cosmetic_top.specs.Report.{page_text, text_of, report_of}
+use Rattle.cosmetic_top.specs.Report.{at_tree, page_text, text_of, report_of}
 use Rattle.cosmetic_top.proofs.Unnumbered.{same_page}
 
 -- the report of a list, by what was read of it
-pub report_text : (large : List Asked) (unread : List Written) (list bytes script : List ℕ) (t : Tree) (notices : List Notice) (filters : List Filter) → bytes ≡ list
+pub report_text : (large : List Asked) (unread : List Written) (list bytes script : List ℕ) (t : Tree) (page : PageState) (notices : List Notice) (filters : List Filter) → bytes ≡ list → page ≡ at_tree t
     → notices ≡ notices_in large unread (numbered 1 (lines_of bytes)) → map unnumbered_filter filters ≡ filters_in large unread 1 (numbered 1 (lines_of bytes))
-    → notices_text 1 notices ++ page_text filters t script ≡ report_of large unread list t script
+    → notices_text 1 notices ++ page_text filters page script ≡ report_of large unread list t script
 unfolding report_of
-report_text large unread list bytes script t notices filters e n f =
+report_text large unread list bytes script t page notices filters e p n f =
     ap₂ (λ (ns : List Notice) (page : List ℕ). notices_text 1 ns ++ page)
     (n ∙ ap (λ (b : List ℕ). notices_in large unread (numbered 1 (lines_of b))) e)
-    (sym (same_page filters t script) ∙ ap (λ (fs : List Filter). page_text fs t script) (f ∙ ap (λ (b : List ℕ). filters_in large unread 1 (numbered 1 (lines_of b))) e))
+    (ap (λ (s : PageState). page_text filters s script) p ∙ sym (same_page filters (at_tree t) script) ∙ ap (λ (fs : List Filter). page_text fs (at_tree t) script) (f ∙ ap (λ (b : List ℕ). filters_in large unread 1 (numbered 1 (lines_of b))) e))
 
 -- what was read of accepted inputs gives the report that is due
 pub report_is : (large : List Asked) (unread : List Written) (due : Result Inputs Status) (inputs : Inputs) (text : List ℕ) → due ≡ Ok inputs

@@ -2,17 +2,16 @@
 use Rattle.std.proofs.Common.{◌≡◌, ◌++◌, ℕ, List, ◌∷◌, ap₂, sym, subst}
 use Rattle.cos_outside.specs.Runs.{AppendsPrefix, HasLeft}
 use Rattle.cos_outside.proofs.Appending.{goes_on, ends_within}
-use Rattle.page_tree.specs.Forest.{Tree}
 use Rattle.mutation_script.specs.Lines.{script_line}
-use Rattle.mutation_script.specs.Changes.{PageState, answer, after}
+use Rattle.mutation_script.specs.declared.page.PageState.{PageState}
+use Rattle.mutation_script.specs.declared.answer.Answer.{Answer}
+use Rattle.mutation_script.specs.Changes.{answer, after}
 use Rattle.selector_tree.specs.declared.filter.Filter.{Filter}
-use Rattle.hide_report.specs.declared.answer.Answer.{Answer}
-use Rattle.hide_report.specs.Answers.{answer_given}
-use Rattle.cosmetic_top.specs.Report.{page_step, at_tree, line_text, lines_text}
+use Rattle.cosmetic_top.specs.Report.{page_step, line_text, lines_text}
 
--- the step of a line, by the answer and the tree that it gave
-pub step_of_line : (was is : Tree) (given : Answer) (filters : List Filter) (number : ℕ) (line : List ℕ) → given ≡ answer_given (answer (script_line line) (at_tree was)) → at_tree is ≡ after (script_line line) (at_tree was)
-    → page_step number given filters (at_tree is) ≡ line_text filters (at_tree was) (number, line)
+-- the step of a line, by the answer and the page that it gave
+pub step_of_line : (was is : PageState) (given : Answer) (filters : List Filter) (number : ℕ) (line : List ℕ) → given ≡ answer (script_line line) was → is ≡ after (script_line line) was
+    → page_step number given filters is ≡ line_text filters was (number, line)
 step_of_line was is given filters number line e es = ap₂ (λ (a : Answer) (page : PageState). page_step number a filters page) e es
 
 module _ (old new next text : List ℕ) (was is : PageState) (filters : List Filter) (line : ℕ × List ℕ) (lines rest : List (ℕ × List ℕ)) (first : lines ≡ line ∷ rest) (so_far : HasLeft old new text (lines_text filters was lines)) where

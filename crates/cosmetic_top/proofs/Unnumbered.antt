@@ -6,7 +6,6 @@ use Rattle.std.proofs.lemmas.List.Folds.{flat_map-map}
 use Rattle.std.proofs.lemmas.Option.{slice_get-map}
 use Rattle.cos_source.specs.Lines.{lines_of, numbered}
 use Rattle.cos_patterns.specs.Found.{pattern_found}
-use Rattle.page_tree.specs.Forest.{Tree}
 use Rattle.page_tree.specs.Standings.{all, name}
 use Rattle.selector_tree.specs.declared.filter.Filter.{Filter}
 use Rattle.selector_tree.specs.declared.selector.Step.{Step}
@@ -15,14 +14,15 @@ use Rattle.selector_meaning.specs.Meaning.{selects}
 use Rattle.selector_meaning.specs.Hidden.{places_from, with_row, rows_of}
 use Rattle.selector_meaning.proofs.Unnumbered.{unnumbered_selects}
 use Rattle.mutation_script.specs.Lines.{script_line}
-use Rattle.mutation_script.specs.Changes.{PageState, answer, after}
+use Rattle.mutation_script.specs.declared.page.PageState.{PageState}
+use Rattle.mutation_script.specs.declared.answer.Answer.{Answer}
+use Rattle.mutation_script.specs.declared.answer.Answer.TheVariants.{Opened}
+use Rattle.mutation_script.specs.Changes.{answer, after}
 use Rattle.list_reader.specs.Filters.{unnumbered_filter}
-use Rattle.hide_report.specs.declared.answer.Answer.{Answer}
-use Rattle.hide_report.specs.declared.answer.Answer.TheVariants.{Opened}
-use Rattle.hide_report.specs.Answers.{answer_name, answer_given}
+use Rattle.hide_report.specs.Answers.{answer_name}
 use Rattle.hide_report.specs.Texts.{count_text, filter_text, head_text, spaced_name, place_text, answer_text, end_text, step_text}
 use Rattle.cosmetic_top.specs.FilterSets.{selectors_of}
-use Rattle.cosmetic_top.specs.Report.{at_tree, hidden_by, page_step, line_text, lines_text, script_text, steps_text, page_text}
+use Rattle.cosmetic_top.specs.Report.{hidden_by, page_step, line_text, lines_text, script_text, steps_text, page_text}
 
 same_places : (s : PageState) (x n : ℕ) (selectors : List (List (List Step))) →
     places_from n (λ selector. selects pattern_found s.tree s.path selector x) (map unnumbered selectors) ≡ places_from n (λ selector. selects pattern_found s.tree s.path selector x) selectors
@@ -60,14 +60,14 @@ same_step number given filters s =
 same_lines : (filters : List Filter) (s : PageState) (lines : List (ℕ × List ℕ)) → lines_text (map unnumbered_filter filters) s lines ≡ lines_text filters s lines
 same_lines filters s [] = refl
 same_lines filters s (line ∷ lines) =
-    ap₂ ◌++◌ (same_step line.0 (answer_given (answer (script_line line.1) s)) filters (after (script_line line.1) s)) (same_lines filters (after (script_line line.1) s) lines)
+    ap₂ ◌++◌ (same_step line.0 (answer (script_line line.1) s) filters (after (script_line line.1) s)) (same_lines filters (after (script_line line.1) s) lines)
 
 same_head : (address : List ℕ) (filters : List Filter) → head_text address (map unnumbered_filter filters) ≡ head_text address filters
 same_head address filters = ap₂ (λ (n : ℕ) (texts : List ℕ). count_text address n ++ texts) (length-map filters unnumbered_filter) (flat_map-map filter_text unnumbered_filter filters)
 
 -- what is said of a page and of a script is the same
-pub same_page : (filters : List Filter) (t : Tree) (script : List ℕ) → page_text (map unnumbered_filter filters) t script ≡ page_text filters t script
-same_page filters t script =
+pub same_page : (filters : List Filter) (s : PageState) (script : List ℕ) → page_text (map unnumbered_filter filters) s script ≡ page_text filters s script
+same_page filters s script =
     ap₂ ◌++◌ (same_head (codes "https://example.com/") filters)
-    (ap₂ ◌++◌ (same_step 0 Opened filters (at_tree t))
-    (ap (λ text. text ++ end_text (length (lines_of script))) (same_lines filters (at_tree t) (numbered 1 (lines_of script)))))
+    (ap₂ ◌++◌ (same_step 0 Opened filters s)
+    (ap (λ text. text ++ end_text (length (lines_of script))) (same_lines filters s (numbered 1 (lines_of script)))))

@@ -1,5 +1,5 @@
 // What a command works on, and how it is read.
-ghost use Rattle.std.specs.Prelude.{◌≡◌, ◌≤◌, ◌∷◌, [], ◌++◌, Some, Ok, false, length, option_to_list, IsTrue, IfOk, IfErr, OnOk, IsErrOf};
+ghost use Rattle.std.specs.Prelude.{◌≡◌, ◌+◌, ◌≤◌, ◌∷◌, [], ◌++◌, Some, Ok, false, length, option_to_list, IsTrue, IfOk, IfErr, OnOk, IsErrOf};
 ghost use Rattle.cos_outside.specs.Causes.{Rose};
 ghost use Rattle.cos_outside.specs.Runs.{AppendsPrefix};
 ghost use Rattle.std.specs.Option.{option_copied};
@@ -37,6 +37,7 @@ pub fn read_inputs<S: Shelf>(
         AppendsPrefix (S.begun shelf.old) (S.begun shelf.new) (in_order (Some (named command.now))) }
     ensures within { IfOk result (λ inputs. length inputs.list ≤ FILE_LIMIT) }
     ensures script_within { IfOk result (λ inputs. length inputs.script ≤ FILE_LIMIT) }
+    ensures numbers { IfOk result (λ inputs. inputs.tree.next ≤ FILE_LIMIT + 1) }
     ensures kinds { IfErr result IsInputError }
     ensures fault { IsErrOf result Status.ReadFault → Rose (S.faults shelf.old) (S.faults shelf.new) }
 {
@@ -61,6 +62,7 @@ fn read_page_and_script<S: Shelf>(
     ensures begun { IsTrue (S.tells shelf.old) →
         AppendsPrefix (S.begun shelf.old) (S.begun shelf.new) (page.now ∷ option_to_list (option_copied script.entry)) }
     ensures within { IfOk result (λ read. length read.1 ≤ FILE_LIMIT) }
+    ensures numbers { IfOk result (λ read. read.0.next ≤ FILE_LIMIT + 1) }
     ensures kinds { IfErr result IsInputError }
     ensures later { S.faults shelf.old ≤ S.faults shelf.new }
     ensures fault { IsErrOf result Status.ReadFault → Rose (S.faults shelf.old) (S.faults shelf.new) }
@@ -97,6 +99,7 @@ fn read_tree<S: Shelf>(alloc: Global, shelf: &mut S, page: &str) -> Result<Dom, 
     ensures due { IsTrue (S.tells shelf.old) → IsDue result (tree_due (S.files shelf.old page.now)) }
     ensures begun { IsTrue (S.tells shelf.old) → AppendsPrefix (S.begun shelf.old) (S.begun shelf.new) (page.now ∷ []) }
     ensures begun_whole { IsTrue (S.tells shelf.old) → OnOk result (S.begun shelf.new ≡ S.begun shelf.old ++ page.now ∷ []) }
+    ensures numbers { IfOk result (λ tree. tree.next ≤ FILE_LIMIT + 1) }
     ensures kinds { IfErr result IsInputError }
     ensures later { S.faults shelf.old ≤ S.faults shelf.new }
     ensures fault { IsErrOf result Status.ReadFault → Rose (S.faults shelf.old) (S.faults shelf.new) }
@@ -108,6 +111,7 @@ fn read_tree<S: Shelf>(alloc: Global, shelf: &mut S, page: &str) -> Result<Dom, 
 // The tree of a page from the bytes of its file.
 fn tree_of(alloc: Global, bytes: &[u8]) -> Result<Dom, Status>
     ensures due { IsDue result (tree_of_bytes bytes.now) }
+    ensures numbers { IfOk result (λ tree. tree.next ≤ length bytes.now + 1) }
     ensures kinds { IfErr result IsPageError }
 {
     match str::from_utf8(bytes) {
@@ -119,6 +123,7 @@ fn tree_of(alloc: Global, bytes: &[u8]) -> Result<Dom, Status>
 // The tree of a page from its text.
 fn tree_of_text(alloc: Global, text: &str) -> Result<Dom, Status>
     ensures due { IsDue result (tree_of_source (without_mark text.now)) }
+    ensures numbers { IfOk result (λ tree. tree.next ≤ length text.now + 1) }
     ensures kinds { IfErr result IsPageError }
 {
     match read_page(alloc, text_without_mark(text)) {

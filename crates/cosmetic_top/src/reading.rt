@@ -1,5 +1,5 @@
 // What the inputs of a command give: the filters of the list are read.
-ghost use Rattle.std.specs.Prelude.{◌≡◌, ◌<◌, ◌≤◌, ◌^◌, [], false, Some, length, IsTrue, IfOk, IfErr, OnOk, IsErrOf};
+ghost use Rattle.std.specs.Prelude.{◌≡◌, ◌+◌, ◌<◌, ◌≤◌, ◌^◌, [], false, Some, length, IsTrue, IfOk, IfErr, OnOk, IsErrOf};
 ghost use Rattle.cos_outside.specs.Causes.{Rose};
 ghost use Rattle.cos_outside.specs.Runs.{AppendsPrefix};
 ghost use Rattle.cos_source.specs.Mark.{without_mark};
@@ -16,17 +16,20 @@ use crate::{FILE_LIMIT, Status};
 use cos_outside::Shelf;
 use cos_patterns::{Maker, PatternTable};
 use cos_source::without_mark;
-use dom_arena::Dom;
 use list_reader::{ListRead, Notices, read_list};
-use listed::Bytes;
+use listed::{Bytes, Text};
+use mutation_script::PageState;
 use std::alloc::{AllocError, Global};
 
-/// The notices and the filters of a list, the tree of a page, and the bytes of a script.
+// The path of the page's address.
+const PATH: &str = "/";
+
+/// The notices and the filters of a list, a page, and the bytes of a script.
 #[derive(Drop)]
 pub struct Reading {
     pub notices: Notices,
     pub filters: FilterSet,
-    pub tree: Dom,
+    pub page: PageState,
     pub script: Bytes,
 }
 
@@ -47,6 +50,7 @@ pub fn read_all<S: Shelf, M: Maker>(
         report_due (M.large maker.new) (M.unread maker.new) (inputs_due (S.files shelf.old) (named command.now))) }
     ensures filters { IfOk result (λ reading. MayBeAsked reading.filters) }
     ensures script { IfOk result (λ reading. length reading.script ≤ FILE_LIMIT) }
+    ensures numbers { IfOk result (λ reading. reading.page.tree.next ≤ FILE_LIMIT + 1) }
     ensures begun { IsTrue (S.tells shelf.old) →
         AppendsPrefix (S.begun shelf.old) (S.begun shelf.new) (in_order (Some (named command.now))) }
     ensures kinds { IfErr result IsInputError }
@@ -70,6 +74,7 @@ fn read_filters<M: Maker>(
         report_of (M.large maker.new) (M.unread maker.new) (without_mark inputs.list) inputs.tree (without_mark inputs.script)) }
     ensures filters { IfOk result (λ reading. MayBeAsked reading.filters) }
     ensures script { IfOk result (λ reading. reading.script ≡ inputs.script) }
+    ensures tree { IfOk result (λ reading. reading.page.tree ≡ inputs.tree) }
 {
     let Inputs { list, tree, script } = inputs;
     let mut table = PatternTable::new(alloc);
@@ -84,10 +89,11 @@ fn read_filters<M: Maker>(
         table,
         active: filters,
     };
+    let path = Text::of(alloc, PATH)?;
     Ok(Reading {
         notices,
         filters,
-        tree,
+        page: PageState { tree, path },
         script,
     })
 }

@@ -1,5 +1,5 @@
 // The program's one call.
-ghost use Rattle.std.specs.Prelude.{◌≡◌, ◌↔◌, ◌<◌, ◌^◌, ◌++◌, [], false, None, length, map, string_bytes, IsTrue};
+ghost use Rattle.std.specs.Prelude.{◌≡◌, ◌↔◌, ◌+◌, ◌<◌, ◌≤◌, ◌^◌, ◌++◌, [], false, None, length, map, string_bytes, IsTrue};
 ghost use Rattle.cos_outside.specs.Causes.{Rose};
 ghost use Rattle.cos_outside.specs.Runs.{AppendsPrefix};
 ghost use Rattle.cosmetic_top.specs.Command.{names_of, in_order};
@@ -75,6 +75,7 @@ fn report<O: Sink, L: Ledger>(
 ) -> Status
     requires filters { MayBeAsked reading.filters }
     requires script { length reading.script < 2 ^ 32 }
+    requires numbers { reading.page.tree.next + length reading.script ≤ 4294967295 }
     ensures kinds { IsReportStatus result }
     ensures fault { result ≡ Status.WriteFault → Rose (O.faults out.old) (O.faults out.new) }
     ensures whole { IsTrue (O.tells out.old) → result ≡ Status.Done → O.written out.new ≡ O.written out.old ++ text_of reading }

@@ -48,12 +48,12 @@ fn words_of(alloc: Global, text: &str) -> Result<Vec<String>, AllocError> {
 
 const ONE: &str = "<div class=\"x\">t</div>";
 
-// a script of changes, of lines that are refused, and of a word that isn't read yet
+// a script of each change, and of lines that are refused and bad
 const CHANGES: &[u8] =
-    b"attr 1 class y\nunset 1 class\nattr 1 class x z\nmove 1 0 0\nattr 2 id q\nattr 5 id q\n";
+    b"attr 1 class y\nunset 1 class\nattr 1 class x z\nmove 1 1 0\nattr 2 id q\nattr 5 id q\ntext 2 u\ninsert 1 1 <b class=x></b>\nmove 3 0 0\ndelete 1\npath /b\npath b\n";
 
 fn changed() -> &'static str {
-    "page https://example.com/\nactive 1\nfilter 1:1 .x\nstep 0 opened\nhidden 1\n 1 div 1:1\nstep 1 ok\nhidden 0\nstep 2 ok\nhidden 0\nstep 3 ok\nhidden 1\n 1 div 1:1\nstep 4 bad NotYet\nhidden 1\n 1 div 1:1\nstep 5 refused NotElement 2\nhidden 1\n 1 div 1:1\nstep 6 refused NoSuchNode 5\nhidden 1\n 1 div 1:1\nend 6\n"
+    "page https://example.com/\nactive 1\nfilter 1:1 .x\nstep 0 opened\nhidden 1\n 1 div 1:1\nstep 1 ok\nhidden 0\nstep 2 ok\nhidden 0\nstep 3 ok\nhidden 1\n 1 div 1:1\nstep 4 refused IntoItself 1\nhidden 1\n 1 div 1:1\nstep 5 refused NotElement 2\nhidden 1\n 1 div 1:1\nstep 6 refused NoSuchNode 5\nhidden 1\n 1 div 1:1\nstep 7 ok\nhidden 1\n 1 div 1:1\nstep 8 ok\nhidden 2\n 1 div 1:1\n 3 b 1:1\nstep 9 ok\nhidden 2\n 3 b 1:1\n 1 div 1:1\nstep 10 ok\nhidden 1\n 3 b 1:1\nstep 11 ok\nhidden 1\n 3 b 1:1\nstep 12 bad BadPath\nhidden 1\n 3 b 1:1\nend 12\n"
 }
 
 // what was written where the step of the second line can't be

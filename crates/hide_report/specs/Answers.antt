@@ -4,10 +4,9 @@ use Rattle.std.specs.Fmt.{decimal}
 use Rattle.dom_arena.specs.declared.refusals.DomError.{DomError}
 use Rattle.dom_arena.specs.declared.refusals.DomError.TheVariants.{NoSuchNode, NotElement, NotText, BadPlace, IntoItself, IsDocument, TooDeep, TooManyNodes, NoMemory}
 use Rattle.mutation_script.specs.declared.mutation.BadLine.{BadLine}
-use Rattle.mutation_script.specs.declared.mutation.BadLine.TheVariants.{NotUtf8, UnknownWord, MissingField, BadNumber, BadName, BadPath, ExtraField, NotYet}
-use Rattle.mutation_script.specs.Changes.{LineAnswer, done, refused, blank, bad}
-use Rattle.hide_report.specs.declared.answer.Answer.{Answer}
-use Rattle.hide_report.specs.declared.answer.Answer.TheVariants.{Opened, Done, Refused, Blank, Bad}
+use Rattle.mutation_script.specs.declared.mutation.BadLine.TheVariants.{NotUtf8, UnknownWord, MissingField, BadNumber, BadName, BadPath, ExtraField}
+use Rattle.mutation_script.specs.declared.answer.Answer.{Answer}
+use Rattle.mutation_script.specs.declared.answer.Answer.TheVariants.{Opened, Done, Refused, Blank, Bad}
 
 abbrev pub cause_name : BadLine → List ℕ
 cause_name NotUtf8 = codes "NotUtf8"
@@ -17,7 +16,6 @@ cause_name BadNumber = codes "BadNumber"
 cause_name BadName = codes "BadName"
 cause_name BadPath = codes "BadPath"
 cause_name ExtraField = codes "ExtraField"
-cause_name NotYet = codes "NotYet"
 
 -- want of memory is no answer to a step, and has no name
 abbrev pub refusal_name : DomError → List ℕ
@@ -37,10 +35,3 @@ answer_name Done = codes "ok"
 answer_name (Refused refusal) = codes "refused " ++ refusal_name refusal
 answer_name Blank = codes "blank"
 answer_name (Bad cause) = codes "bad " ++ cause_name cause
-
--- the answer to a line, as a step gives it
-abbrev pub answer_given : LineAnswer → Answer
-answer_given done = Done
-answer_given (refused refusal) = Refused refusal
-answer_given blank = Blank
-answer_given (bad cause) = Bad cause

@@ -1,26 +1,11 @@
-// What is answered to the page and to each line of the script.
+// How the answers to the page and to each line of the script are printed.
 ghost use Rattle.std.specs.Prelude.{◌≡◌, ◌++◌, codes, string_bytes, IfOk};
 ghost use Rattle.std.specs.Fmt.{decimal};
 ghost use Rattle.hide_report.specs.Answers.{answer_name, refusal_name, cause_name};
 
 use dom_arena::DomError;
-use mutation_script::BadLine;
+use mutation_script::{Answer, BadLine};
 use std::alloc::{AllocError, Global};
-
-/// The answer of a step.
-#[derive(Clone, Copy)]
-pub enum Answer {
-    /// The page was read.
-    Opened,
-    /// The change is made.
-    Done,
-    /// The change is refused, and nothing changed.
-    Refused(DomError),
-    /// The line is blank.
-    Blank,
-    /// The line says no change, for this cause.
-    Bad(BadLine),
-}
 
 /// The answer as it is printed.
 pub fn answer_name(alloc: Global, answer: Answer) -> Result<String, AllocError>
@@ -53,7 +38,6 @@ fn cause_name(cause: BadLine) -> &'static str
         BadLine::BadName => "BadName",
         BadLine::BadPath => "BadPath",
         BadLine::ExtraField => "ExtraField",
-        BadLine::NotYet => "NotYet",
     }
 }
 

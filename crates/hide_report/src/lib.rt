@@ -8,7 +8,7 @@ mod names;
 mod texts;
 mod writing;
 
-pub use answer::Answer;
+pub use mutation_script::Answer;
 pub use writing::{ReportError, write_end, write_head, write_notices, write_step};
 
 #[cfg(test)]

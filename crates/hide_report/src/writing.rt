@@ -5,11 +5,12 @@ ghost use Rattle.cos_outside.specs.Runs.{AppendsPrefix};
 ghost use Rattle.hide_report.specs.Answers.{answer_name};
 ghost use Rattle.hide_report.specs.Texts.{notices_text, head_text, step_text, end_text, pair_of};
 
-use crate::answer::{Answer, answer_name};
+use crate::answer::answer_name;
 use crate::texts;
 use cos_outside::{Failed, Sink, write_whole};
 use dom_arena::Dom;
 use list_reader::Notices;
+use mutation_script::Answer;
 use selector_tree::{Active, Rows};
 use std::alloc::{AllocError, Global};
 

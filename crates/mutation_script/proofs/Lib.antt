@@ -1,4 +1,4 @@
-mod Cuts
-mod Numerals
 mod Texts
-pub mod Built
+mod Told
+mod Inserting
+pub mod Growth

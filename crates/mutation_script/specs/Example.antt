@@ -1,8 +1,8 @@
 -- Lines of each kind, computed.
 use Rattle.std.specs.Prelude.{◌≡◌, [], ◌∷◌, ◌++◌, codes, Ok, Err, refl}
 use Rattle.std.specs.Str.{is_utf8, chars}
-use Rattle.mutation_script.specs.declared.mutation.BadLine.TheVariants.{NotUtf8, UnknownWord, MissingField, BadNumber, BadName, ExtraField, NotYet}
-use Rattle.mutation_script.specs.declared.mutation.Mutation.TheVariants.{SetAttr, DropAttr}
+use Rattle.mutation_script.specs.declared.mutation.BadLine.TheVariants.{NotUtf8, UnknownWord, MissingField, BadNumber, BadName, BadPath, ExtraField}
+use Rattle.mutation_script.specs.declared.mutation.Mutation.TheVariants.{SetAttr, DropAttr, SetText, Insert, Delete, Relink, Path}
 use Rattle.mutation_script.specs.declared.mutation.ScriptLine.TheVariants.{Mutation, Blank, Bad}
 use Rattle.mutation_script.specs.Lines.{mutation_of, script_line}
 
@@ -53,6 +53,27 @@ greatest_number = refl
 attribute_taken_away : mutation_of (codes "unset 120 Class") ≡ Ok (DropAttr 120 (codes "class"))
 attribute_taken_away = refl
 
+text_as_it_is : mutation_of (codes "text 3  a &amp; b") ≡ Ok (SetText 3 (codes " a &amp; b"))
+text_as_it_is = refl
+
+no_text_field : mutation_of (codes "text 3") ≡ Ok (SetText 3 [])
+no_text_field = refl
+
+html_of_an_insert : mutation_of (codes "insert 1 0 <i class=a>x y</i>") ≡ Ok (Insert 1 0 (codes "<i class=a>x y</i>"))
+html_of_an_insert = refl
+
+insert_of_nothing : mutation_of (codes "insert 1 0") ≡ Ok (Insert 1 0 [])
+insert_of_nothing = refl
+
+node_taken_out : mutation_of (codes "delete 12") ≡ Ok (Delete 12)
+node_taken_out = refl
+
+node_moved : mutation_of (codes "move 4 0 1") ≡ Ok (Relink 4 0 1)
+node_moved = refl
+
+path_and_query : mutation_of (codes "path /b?x=1 y") ≡ Ok (Path (codes "/b?x=1 y"))
+path_and_query = refl
+
 -- words
 
 word_in_upper_case : mutation_of (codes "ATTR 1 a") ≡ Err UnknownWord
@@ -63,12 +84,6 @@ empty_word = refl
 
 longer_word : mutation_of (codes "paths /") ≡ Err UnknownWord
 longer_word = refl
-
-later_word : mutation_of (codes "delete 1") ≡ Err NotYet
-later_word = refl
-
-later_word_alone : mutation_of (codes "path") ≡ Err NotYet
-later_word_alone = refl
 
 -- numbers
 
@@ -114,3 +129,46 @@ field_too_many = refl
 
 bad_name_first : mutation_of (codes "unset 1 = b") ≡ Err BadName
 bad_name_first = refl
+
+space_behind_a_number : mutation_of (codes "delete 1 ") ≡ Err ExtraField
+space_behind_a_number = refl
+
+carriage_return_behind_a_number : mutation_of (codes "delete 1" ++ 13 ∷ []) ≡ Err BadNumber
+carriage_return_behind_a_number = refl
+
+field_behind_a_place : mutation_of (codes "move 1 0 0 0") ≡ Err ExtraField
+field_behind_a_place = refl
+
+-- numbers and places of the other words
+
+no_node : mutation_of (codes "delete") ≡ Err MissingField
+no_node = refl
+
+empty_node : mutation_of (codes "delete ") ≡ Err BadNumber
+empty_node = refl
+
+no_place : mutation_of (codes "insert 1") ≡ Err MissingField
+no_place = refl
+
+empty_place : mutation_of (codes "insert 1  <i>") ≡ Err BadNumber
+empty_place = refl
+
+no_parent : mutation_of (codes "move 1") ≡ Err MissingField
+no_parent = refl
+
+bad_parent : mutation_of (codes "move 1 x") ≡ Err BadNumber
+bad_parent = refl
+
+no_place_to_move_to : mutation_of (codes "move 1 0") ≡ Err MissingField
+no_place_to_move_to = refl
+
+-- paths
+
+no_path : mutation_of (codes "path") ≡ Err MissingField
+no_path = refl
+
+empty_path : mutation_of (codes "path ") ≡ Err BadPath
+empty_path = refl
+
+path_behind_a_space : mutation_of (codes "path  /a") ≡ Err BadPath
+path_behind_a_space = refl

@@ -2,23 +2,19 @@
 // has ended.
 ghost use Rattle.std.specs.Prelude.{◌≡◌, option_copied};
 ghost use Rattle.std.specs.List.{list_all};
-ghost use Rattle.std.specs.Char.{is_ascii_digit};
 ghost use Rattle.std.specs.Str.{str_to_ascii_lowercase};
-ghost use Rattle.mutation_script.specs.Fields.{field, behind, is_numeral, number, is_name_byte, is_name, number_field, name_field, at_end};
+ghost use Rattle.mutation_script.specs.Fields.{field, left, is_name_byte, is_name, is_path, number_field, name_field, path_field, at_end};
 ghost use Rattle.mutation_script.specs.Reads.{Reads};
 
 use crate::BadLine;
-use cos_source::is_space;
+use cos_source::{is_space, plain_number, split_once};
 
 // The first field of a text, and what is left behind it.
 pub fn cut(text: &str) -> (&str, Option<&str>)
     ensures field { result.0.now ≡ field text.now }
-    ensures rest { option_copied result.1 ≡ behind text.now }
+    ensures rest { option_copied result.1 ≡ left text.now }
 {
-    match text.split_once(' ') {
-        Some((field, rest)) => (field, Some(rest)),
-        None => (text, None),
-    }
+    split_once(text, b' ')
 }
 
 // The next field as a number.
@@ -26,19 +22,31 @@ pub fn number_field(rest: Option<&str>) -> Result<(u32, Option<&str>), BadLine>
     ensures { Reads (λ read. (read.0, option_copied read.1)) result (number_field (option_copied rest.entry)) }
 {
     let (field, rest) = cut(rest.ok_or(BadLine::MissingField)?);
-    let number = number(field).ok_or(BadLine::BadNumber)?;
+    let number = plain_number(field, u32::MAX).ok_or(BadLine::BadNumber)?;
     Ok((number, rest))
 }
 
 // The next field as the name of an attribute, in the letter case of the line.
 pub fn name_field(rest: Option<&str>) -> Result<(&str, Option<&str>), BadLine>
-    ensures { Reads (λ read. (str_to_ascii_lowercase read.0.now, option_copied read.1)) result (name_field (option_copied rest.entry)) }
+    ensures { Reads (λ read. (str_to_ascii_lowercase read.0.now, option_copied read.1)) result
+        (name_field (option_copied rest.entry)) }
 {
     let (field, rest) = cut(rest.ok_or(BadLine::MissingField)?);
     if !is_name(field) {
         return Err(BadLine::BadName);
     }
     Ok((field, rest))
+}
+
+// All of what is left, as a path.
+pub fn path_field(rest: Option<&str>) -> Result<&str, BadLine>
+    ensures { Reads (λ path. path.now) result (path_field (option_copied rest.entry)) }
+{
+    let path = rest.ok_or(BadLine::MissingField)?;
+    if !is_path(path.as_bytes()) {
+        return Err(BadLine::BadPath);
+    }
+    Ok(path)
 }
 
 // Nothing may be left behind the last field.
@@ -51,31 +59,14 @@ pub fn at_end(rest: Option<&str>) -> Result<(), BadLine>
     }
 }
 
-// The number that a text writes, if it is one.
-fn number(text: &str) -> Option<u32>
-    ensures { result ≡ number text.now }
+// Whether a text may be the path of an address.
+fn is_path(text: &[u8]) -> bool
+    ensures { result ≡ is_path text.now }
 {
-    if is_numeral(text.as_bytes()) {
-        text.parse().ok()
-    } else {
-        None
-    }
-}
-
-// `0`, or digits without a leading zero.
-fn is_numeral(text: &[u8]) -> bool
-    ensures { result ≡ is_numeral text.now }
-{
-    match text.split_first() {
-        Some((first, rest)) => are_digits(text) && (*first != b'0' || rest.is_empty()),
+    match text.first() {
+        Some(first) => *first == b'/',
         None => false,
     }
-}
-
-fn are_digits(text: &[u8]) -> bool
-    ensures { result ≡ list_all is_ascii_digit text.now }
-{
-    text.iter().all(|byte| byte.is_ascii_digit())
 }
 
 // Whether a text may be the name of an attribute.

@@ -5,12 +5,16 @@
 //! `Changes.antt` says what a mutation does to a page, and how each line is answered.
 #![tactic(auto)]
 
+mod answer;
 mod fields;
 mod lines;
 mod mutation;
+mod page;
 
+pub use answer::{Answer, Outcome};
 pub use lines::read_line;
 pub use mutation::{BadLine, Mutation, ScriptLine};
+pub use page::PageState;
 
 #[cfg(test)]
 mod tests {
@@ -28,7 +32,25 @@ mod tests {
                 "drop {n} {}",
                 name.as_str()
             ),
-            ScriptLine::Mutation(_) => String::from_str(alloc, "other"),
+            ScriptLine::Mutation(Mutation::SetText { n, text }) => format!(in alloc;
+                "text {n} [{}]",
+                text.as_str()
+            ),
+            ScriptLine::Mutation(
+                Mutation::Insert {
+                    parent,
+                    place,
+                    html,
+                },
+            ) => format!(in alloc; "insert {parent} {place} [{}]", html.as_str()),
+            ScriptLine::Mutation(Mutation::Delete { n }) => format!(in alloc; "delete {n}"),
+            ScriptLine::Mutation(Mutation::Relink { n, parent, place }) => format!(in alloc;
+                "move {n} {parent} {place}"
+            ),
+            ScriptLine::Mutation(Mutation::Path { path }) => format!(in alloc;
+                "path [{}]",
+                path.as_str()
+            ),
             ScriptLine::Blank => String::from_str(alloc, "blank"),
             ScriptLine::Bad(cause) => format!(in alloc; "{cause:?}"),
         }
@@ -36,7 +58,7 @@ mod tests {
 
     #[test]
     fn lines_are_read(rt: HostRuntime) -> Result<(), Fail> {
-        let lines: [(&[u8], &str); 31] = [
+        let lines: [(&[u8], &str); 36] = [
             (b"attr 1 class x z", "set 1 class [x z]"),
             (b"attr 0 onClick  Y ", "set 0 onclick [ Y ]"),
             (b"attr 1 class", "set 1 class []"),
@@ -52,11 +74,16 @@ mod tests {
             (b"ATTR 1 a", "UnknownWord"),
             (b" attr 1 a", "UnknownWord"),
             (b"paths /", "UnknownWord"),
-            (b"text 1 a", "NotYet"),
-            (b"insert x", "NotYet"),
-            (b"delete 1", "NotYet"),
-            (b"move 1 0 0", "NotYet"),
-            (b"path", "NotYet"),
+            (b"text 1  a", "text 1 [ a]"),
+            (b"insert 1 0 <i> </i>", "insert 1 0 [<i> </i>]"),
+            (b"insert x", "BadNumber"),
+            (b"delete 1", "delete 1"),
+            (b"delete ", "BadNumber"),
+            (b"move 1 0 0", "move 1 0 0"),
+            (b"move 1 0 0 ", "ExtraField"),
+            (b"path /a b", "path [/a b]"),
+            (b"path", "MissingField"),
+            (b"path ", "BadPath"),
             (b"attr", "MissingField"),
             (b"unset 1", "MissingField"),
             (b"attr  x", "BadNumber"),

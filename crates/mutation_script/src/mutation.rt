@@ -38,8 +38,6 @@ pub enum BadLine {
     BadPath,
     /// Something stands behind the last field.
     ExtraField,
-    /// Its word isn't built yet.
-    NotYet,
 }
 
 /// What a line of a script is.

@@ -1,8 +1,10 @@
-use Rattle.std.proofs.Common.{◌≡◌, true, subst, sym, ◌∙◌}
+use Rattle.std.proofs.Common.{◌≡◌, ◌≤◌, length, arith, subst, sym, ◌∙◌}
 use Rattle.mutation_script.specs.declared.mutation.ScriptLine.{ScriptLine}
-use Rattle.mutation_script.proofs.Built.{says_built, script_line_built}
+use Rattle.mutation_script.specs.Inserted.{inserted_by}
+use Rattle.mutation_script.proofs.Growth.{inserted_within}
 use Rattle.cosmetic_top.proofs.changes.follow_line.Goals as goal
 
-pub make_change-requires : goal.make_change-requires
-make_change-requires c =
-    subst (λ (line : ScriptLine). says_built line ≡ true) (sym c.in_ok-mutation.ensures ∙ c.in-Mutation.is) (script_line_built c.args.line.now)
+pub apply-requires : goal.apply-requires
+apply-requires c =
+    let within = subst (λ (line : ScriptLine). inserted_by line ≤ length c.args.line.now) (sym c.in_ok-mutation.ensures ∙ c.in-Mutation.is) (inserted_within c.args.line.now) in
+    omega (arith, within, c.requires)

@@ -1,4 +1,5 @@
-use Rattle.std.proofs.Common.{◌≡◌, Err, List, ℕ, ap, sym, subst, ◌∙◌}
+use Rattle.std.proofs.Common.{◌≡◌, ◌+◌, ◌≤◌, length, Err, List, ℕ, ap, sym, subst, ◌∙◌}
+use Rattle.std.specs.Prelude.{IfOk}
 use Rattle.cosmetic_top.specs.declared.status.Status.TheVariants.{Refused}
 use Rattle.cosmetic_top.specs.declared.status.InputRefusal.TheVariants.{PageNotUtf8}
 use Rattle.cos_source.specs.Mark.{without_mark}
@@ -15,3 +16,7 @@ returns-in-Ok-clause-due c =
 pub returns-in-Err-clause-due : goal.returns-in-Err-clause-due
 returns-in-Err-clause-due c = λ _.
     subst (λ (at : ℕ). tree_of_bytes c.args.bytes.now ≡ Err (Refused (PageNotUtf8 at))) (sym c.valid_up_to.ensures) (of_no_text c.args.bytes.now _ c.in-Err.ensures.cases.1)
+
+pub returns-in-Ok-clause-numbers : goal.returns-in-Ok-clause-numbers
+returns-in-Ok-clause-numbers c =
+    subst (λ (v : List ℕ). IfOk c.tree_of_text.result (λ tree. tree.next ≤ length v + 1)) c.in-Ok.ensures.cases.0 c.tree_of_text.ensures.numbers

@@ -7,12 +7,12 @@ pub returns-clause-whole : goal.returns-clause-whole
 returns-clause-whole g c = λ told.
     let written = g.O.Sink.written in
     subst (λ (text : List ℕ). OnOk c.write_page_step.result (written c.write_page_step.new.out ≡ written c.args.out.now ++ text))
-    (step_of_line c.args.dom.now c.follow_line.new.dom c.in_ok-answer.answer c.args.filters.now.active c.args.number c.args.line.now c.in_ok-answer.ensures.answer c.in_ok-answer.ensures.page)
+    (step_of_line c.args.page.now c.follow_line.new.page c.in_ok-answer.answer c.args.filters.now.active c.args.number c.args.line.now c.in_ok-answer.ensures.answer c.in_ok-answer.ensures.page)
     (c.write_page_step.ensures.whole told)
 
 pub returns-clause-front : goal.returns-clause-front
 returns-clause-front g c = λ told.
     let written = g.O.Sink.written in
     subst (λ (text : List ℕ). AppendsPrefix (written c.args.out.now) (written c.write_page_step.new.out) text)
-    (step_of_line c.args.dom.now c.follow_line.new.dom c.in_ok-answer.answer c.args.filters.now.active c.args.number c.args.line.now c.in_ok-answer.ensures.answer c.in_ok-answer.ensures.page)
+    (step_of_line c.args.page.now c.follow_line.new.page c.in_ok-answer.answer c.args.filters.now.active c.args.number c.args.line.now c.in_ok-answer.ensures.answer c.in_ok-answer.ensures.page)
     (c.write_page_step.ensures.front told)
