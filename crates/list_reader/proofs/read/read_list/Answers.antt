@@ -15,13 +15,13 @@ lines-init g c = record {
   agrees = c.requires.agrees;
   extends = extends_self c.args.table.now;
   filters = λ later large unread e a.
-      ap₂ (λ (fs : List Filter) (ls : List (ℕ × Bytes)). map unnumbered_filter fs ++ filters_in large unread c.args.number ls) c.new-filters.ensures c.new-lines.ensures;
+      ap₂ (λ (fs : List Filter) (ls : List (ℕ × Bytes)). map unnumbered_filter fs ++ filters_in large unread c.args.number ls) c.new-filters.ensures c.new-lines.ensures.lines;
   notices = λ later large unread e a.
-      ap₂ (λ (ns : List Notice) (ls : List (ℕ × Bytes)). ns ++ notices_in large unread ls) c.new-notices.ensures c.new-lines.ensures;
+      ap₂ (λ (ns : List Notice) (ls : List (ℕ × Bytes)). ns ++ notices_in large unread ls) c.new-notices.ensures c.new-lines.ensures.lines;
   proper = none_proper c.args.table.now.patterns c.new-filters.result c.new-filters.ensures;
   few =
       let none = ap (λ (fs : List Filter). length fs) c.new-filters.ensures in
-      let all = ap (λ (ls : List (ℕ × Bytes)). length ls) c.new-lines.ensures in
+      let all = ap (λ (ls : List (ℕ × Bytes)). length ls) c.new-lines.ensures.lines in
       omega (arith, none, all, few_lines c.args.bytes.now);
 }
 
