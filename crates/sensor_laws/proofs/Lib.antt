@@ -17,5 +17,6 @@ pub mod MovedFrame
 pub mod PathFrame
 pub mod Tops
 pub mod Completeness
+pub mod Unobserved
 pub mod EditFacts
 pub mod FromEdits

@@ -7,12 +7,14 @@
 //! `Completeness`, and `FromEdits`.
 #![tactic(auto)]
 
-ghost use Rattle.sensor_laws.specs.Laws.{Completeness};
+ghost use Rattle.sensor_laws.specs.Laws.{Completeness, Unobserved};
 ghost use Rattle.sensor_laws.specs.Edits.{AttrSet, AttrDropped, TextSet, TakenOut, FragmentCame, NodeMoved, PathSet};
 
-/// States the law: whatever the kind of change, each element of both trees whose answer differs is dirty.
+/// States the laws: whatever the kind of change, each element of both trees whose answer differs is dirty; and where no
+/// sensor observes a change that brings and moves nothing, nothing is.
 pub fn state()
-    ensures { Completeness }
+    ensures complete { Completeness }
+    ensures unobserved { Unobserved }
 {}
 
 /// States that each edit of a tree is a change of its kind.

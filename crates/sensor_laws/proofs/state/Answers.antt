@@ -1,6 +1,7 @@
--- The law, proved in `Completeness`.
+-- The laws, proved in `Completeness` and `Unobserved`.
 use Rattle.sensor_laws.proofs.Completeness.{completeness}
+use Rattle.sensor_laws.proofs.Unobserved.{unobserved}
 use Rattle.sensor_laws.proofs.state.Goals as goal
 
 pub returns : goal.returns
-returns c = completeness
+returns c = record { complete = completeness; unobserved = unobserved }
