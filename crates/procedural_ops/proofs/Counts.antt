@@ -40,15 +40,15 @@ passing_le p q on (x ∷ l) = omega (arith, one (p x) (q x) (on x), passing_le p
 
 passing_less : (p q : ℕ → Bool) → ((z : ℕ) → p z ≡ true → q z ≡ true) → (l : List ℕ) (w : ℕ) → is_in l w ≡ true → p w ≡ false → q w ≡ true →
     many_passing p l + 1 ≤ many_passing q l
-passing_less p q on [] w h no yes = absurd (both_ways false refl h)
-passing_less p q on (x ∷ l) w h no yes =
+passing_less p q on [] w h left right = absurd (both_ways false refl h)
+passing_less p q on (x ∷ l) w h left right =
     elim (or_cases (x == w) (is_in l w) h) [
       | inl e ↦
           let same : x ≡ w = eqb-true x w e in
-          let a : cond (p x) 1 0 ≡ 0 = ap (λ b. cond b 1 0) (ap p same ∙ no) in
-          let b : cond (q x) 1 0 ≡ 1 = ap (λ b. cond b 1 0) (ap q same ∙ yes) in
+          let a : cond (p x) 1 0 ≡ 0 = ap (λ b. cond b 1 0) (ap p same ∙ left) in
+          let b : cond (q x) 1 0 ≡ 1 = ap (λ b. cond b 1 0) (ap q same ∙ right) in
           omega (arith, a, b, passing_le p q on l)
-      | inr e ↦ omega (arith, one (p x) (q x) (on x), passing_less p q on l w e no yes)
+      | inr e ↦ omega (arith, one (p x) (q x) (on x), passing_less p q on l w e left right)
     ]
 
 passing_few : (p : ℕ → Bool) (l : List ℕ) → many_passing p l ≤ length l
@@ -63,7 +63,10 @@ flip true false on h = absurd (both_ways false refl (on refl))
 flip false b on h = refl
 
 still_append : (past : ℕ → ℕ → Bool) (l : List ℕ) (xs ys : List Step) (k : ℕ) → still past l (xs ++ ys) k ≡ still past l xs k + still past l ys (length xs + k)
-still_append past l [] ys k = refl
+still_append past l [] ys k =
+    let e : k ≡ length {A = Step} [] + k = omega arith in
+    let f : still past l ys k ≡ still past l ys (length {A = Step} [] + k) = ap (still past l ys) e in
+    omega (arith, f)
 still_append past l (x ∷ xs) ys k =
     let r : still past l (xs ++ ys) (suc k) ≡ still past l xs (suc k) + still past l ys (length xs + suc k) = still_append past l xs ys (suc k) in
     let e : length xs + suc k ≡ suc (length xs + k) = omega arith in
@@ -82,8 +85,8 @@ module _ (p q : ℕ → ℕ → Bool) (l : List ℕ) (on : (k z : ℕ) → p k z
 
   each_less : (b : Bool) (k w : ℕ) → is_in l w ≡ true → p k w ≡ false → q k w ≡ true →
       cond b (many_passing (λ z. not (q k z)) l) 0 + cond b 1 0 ≤ cond b (many_passing (λ z. not (p k z)) l) 0
-  each_less true k w h no yes = passing_less (λ z. not (q k z)) (λ z. not (p k z)) (λ z e. flip (p k z) (q k z) (on k z) e) l w h (ap not yes) (ap not no)
-  each_less false k w h no yes = omega arith
+  each_less true k w h left right = passing_less (λ z. not (q k z)) (λ z. not (p k z)) (λ z e. flip (p k z) (q k z) (on k z) e) l w h (ap not right) (ap not left)
+  each_less false k w h left right = omega arith
 
   -- steps that are all asked of w
   still_run : (run : List Step) (k w : ℕ) → is_in l w ≡ true → ((j : ℕ) → k < j → j ≤ length run + k → (p j w ≡ false) × (q j w ≡ true)) →
@@ -160,13 +163,13 @@ module _ (t : Tree) (path : Bytes) (steps : List Step) where
   at_most : (d : Climb) (n : ℕ) → (0 < d.here.left → unasked t steps d ≤ n) → unasked_at t steps d ≤ n
   at_most d n h = by_left (d.here.left == 0) refl
     where
-      by_left : (b : Bool) → (d.here.left == 0) ≡ b → cond b 0 (unasked t steps d) ≤ n
-      by_left true e = omega arith
-      by_left false e = h (elim (zero_or d.here.left) [ inl z ↦ absurd (both_ways (d.here.left == 0) e (eq-eqb _ _ z)) | inr m ↦ m ])
-
       zero_or : (a : ℕ) → (a ≡ 0) ⊎ (0 < a)
       zero_or zero = inl refl
       zero_or (suc a) = inr (omega arith)
+
+      by_left : (b : Bool) → (d.here.left == 0) ≡ b → cond b 0 (unasked t steps d) ≤ n
+      by_left true e = omega arith
+      by_left false e = h (elim (zero_or d.here.left) [ inl z ↦ absurd (both_ways (d.here.left == 0) e (eq-eqb _ _ z)) | inr m ↦ m ])
 
   -- the search goes on
   pub goes_less : (c : Climb) (o : Option Climb) → GoesFurther t steps c o → unasked_in t steps o ≤ unasked t steps c

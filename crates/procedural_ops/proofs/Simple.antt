@@ -66,7 +66,11 @@ pub costing_more : (cost : Cost) (run : List Step) (i : ℕ) (s : Step) → i < 
     many_costing cost (take (i + 1) run) ≡ many_costing cost (take i run) + one_of (costs cost s)
 costing_more cost [] i s h e = absurd (omega (arith, h))
 costing_more cost (r ∷ run) zero s h e = let z : one_of (costs cost s) ≡ one_of (costs cost r) = ap (λ (v : Step). one_of (costs cost v)) e in omega (arith, z)
-costing_more cost (r ∷ run) (suc i) s h e = let m = costing_more cost run i s (omega (arith, h)) e in omega (arith, m)
+costing_more cost (r ∷ run) (suc i) s h e =
+    let m = costing_more cost run i s (omega (arith, h)) e in
+    let n : suc i + 1 ≡ suc (i + 1) = omega arith in
+    let f = ap (λ (k : ℕ). many_costing cost (take k (r ∷ run))) n in
+    omega (arith, m, f)
 
 pub costing_few : (cost : Cost) (run : List Step) (i : ℕ) → many_costing cost (take i run) ≤ many_costing cost run
 costing_few cost [] zero = omega arith
@@ -154,7 +158,9 @@ simple_more (d ∷ l) zero c h e plain =
     (omega (arith, a), all)
 simple_more (d ∷ l) (suc i) c h e plain =
     let r = simple_more l i c (omega (arith, h)) e (and_parts (list_all is_plain_step d) (are_plain l) plain).1 in
-    (omega (arith, r.0), r.1)
+    let n : suc i + 1 ≡ suc (i + 1) = omega arith in
+    let f = ap (λ (k : ℕ). simple_tests (take k (d ∷ l))) n in
+    (omega (arith, r.0, f), r.1)
 
 pub simple_few : (l : List (List Step)) (i : ℕ) → simple_tests (take i l) ≤ simple_tests l
 simple_few [] zero = omega arith

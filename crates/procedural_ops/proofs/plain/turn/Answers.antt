@@ -80,3 +80,10 @@ returns-in-Move-clause-asked g c =
     let h = counts.move_asked c.args.dom.now c.is_tree.ensures c.args.path.now c.args.steps.now c.args.climb.now c.requires.stands c.requires.level c.requires.some c.index-steps-left.result c.index-steps-left.is c.in-Move.place c.in-Move.is in
     let e = ap (λ (d : Option Climb). unasked_in c.args.dom.now c.args.steps.now d) c.advance.ensures in
     omega (arith, h, e)
+
+pub returns-in_err-singles_hold-in-Keep-clause-few : goal.returns-in_err-singles_hold-in-Keep-clause-few
+returns-in_err-singles_hold-in-Keep-clause-few g c =
+    let h = counts.descend_asked c.args.dom.now c.is_tree.ensures c.args.path.now c.args.steps.now c.args.climb.now c.requires.stands c.requires.level c.requires.some c.index-steps-left.result c.index-steps-left.is
+    c.in-Keep.field-0 c.in-Keep.is c.run_start-first.result c.run_start-first.ensures.within c.run_start-first.ensures.run in
+    omega (arith, h, c.singles_hold.ensures.asked)
+

@@ -1,6 +1,7 @@
-use Rattle.std.proofs.Common.{◌≡◌, sym, ◌∙◌}
+use Rattle.std.proofs.Common.{◌≡◌, sym, ◌∙◌, arith}
 use Rattle.procedural_ops.specs.declared.runs.Cost.TheVariants.{Names, Places, Texts, Patterns}
 use Rattle.procedural_ops.proofs.Keeping as keeping
+use Rattle.procedural_ops.proofs.Simple as simple
 use Rattle.procedural_ops.proofs.runs.singles_hold.Goals as goal
 
 pub returns-then-not-branch-clause-answer : goal.returns-then-not-branch-clause-answer
@@ -22,3 +23,30 @@ returns-clause-answer g c =
     (sym c.in_ok-all_of_cost-2.ensures.answer ∙ c.if-not-branch-2.false)
     (sym c.in_ok-all_of_cost-3.ensures.answer ∙ c.if-not-branch-3.false)
     (sym c.in_ok-all_of_cost-4.ensures.answer ∙ c.if-not-branch-4.false))
+
+pub returns-in_err-all_of_cost-clause-asked : goal.returns-in_err-all_of_cost-clause-asked
+returns-in_err-all_of_cost-clause-asked g c = omega (arith, simple.all_costs_asked c.args.run.now, c.all_of_cost.ensures.asked)
+
+pub returns-then-not-branch-clause-asked : goal.returns-then-not-branch-clause-asked
+returns-then-not-branch-clause-asked g c = omega (arith, simple.all_costs_asked c.args.run.now, c.all_of_cost.ensures.asked)
+
+pub returns-in_err-all_of_cost-2-clause-asked : goal.returns-in_err-all_of_cost-2-clause-asked
+returns-in_err-all_of_cost-2-clause-asked g c = omega (arith, simple.all_costs_asked c.args.run.now, c.all_of_cost.ensures.asked, c.all_of_cost-2.ensures.asked)
+
+pub returns-then-not-branch-2-clause-asked : goal.returns-then-not-branch-2-clause-asked
+returns-then-not-branch-2-clause-asked g c = omega (arith, simple.all_costs_asked c.args.run.now, c.all_of_cost.ensures.asked, c.all_of_cost-2.ensures.asked)
+
+pub returns-in_err-all_of_cost-3-clause-asked : goal.returns-in_err-all_of_cost-3-clause-asked
+returns-in_err-all_of_cost-3-clause-asked g c = omega (arith, simple.all_costs_asked c.args.run.now, c.all_of_cost.ensures.asked, c.all_of_cost-2.ensures.asked, c.all_of_cost-3.ensures.asked)
+
+pub returns-then-not-branch-3-clause-asked : goal.returns-then-not-branch-3-clause-asked
+returns-then-not-branch-3-clause-asked g c = omega (arith, simple.all_costs_asked c.args.run.now, c.all_of_cost.ensures.asked, c.all_of_cost-2.ensures.asked, c.all_of_cost-3.ensures.asked)
+
+pub returns-in_err-all_of_cost-4-clause-asked : goal.returns-in_err-all_of_cost-4-clause-asked
+returns-in_err-all_of_cost-4-clause-asked g c = omega (arith, simple.all_costs_asked c.args.run.now, c.all_of_cost.ensures.asked, c.all_of_cost-2.ensures.asked, c.all_of_cost-3.ensures.asked, c.all_of_cost-4.ensures.asked)
+
+pub returns-then-not-branch-4-clause-asked : goal.returns-then-not-branch-4-clause-asked
+returns-then-not-branch-4-clause-asked g c = omega (arith, simple.all_costs_asked c.args.run.now, c.all_of_cost.ensures.asked, c.all_of_cost-2.ensures.asked, c.all_of_cost-3.ensures.asked, c.all_of_cost-4.ensures.asked)
+
+pub returns-clause-asked : goal.returns-clause-asked
+returns-clause-asked g c = omega (arith, simple.all_costs_asked c.args.run.now, c.all_of_cost.ensures.asked, c.all_of_cost-2.ensures.asked, c.all_of_cost-3.ensures.asked, c.all_of_cost-4.ensures.asked)
