@@ -45,8 +45,8 @@ passing_less p q on (x ∷ l) w h left right =
     elim (or_cases (x == w) (is_in l w) h) [
       | inl e ↦
           let same : x ≡ w = eqb-true x w e in
-          let a : cond (p x) 1 0 ≡ 0 = ap (λ b. cond b 1 0) (ap p same ∙ left) in
-          let b : cond (q x) 1 0 ≡ 1 = ap (λ b. cond b 1 0) (ap q same ∙ right) in
+          let a : cond {A = ℕ} (p x) 1 0 ≡ 0 = ap (λ (v : Bool). cond {A = ℕ} v 1 0) (ap p same ∙ left) in
+          let b : cond {A = ℕ} (q x) 1 0 ≡ 1 = ap (λ (v : Bool). cond {A = ℕ} v 1 0) (ap q same ∙ right) in
           omega (arith, a, b, passing_le p q on l)
       | inr e ↦ omega (arith, one (p x) (q x) (on x), passing_less p q on l w e left right)
     ]
@@ -69,8 +69,8 @@ still_append past l [] ys k =
     omega (arith, f)
 still_append past l (x ∷ xs) ys k =
     let r : still past l (xs ++ ys) (suc k) ≡ still past l xs (suc k) + still past l ys (length xs + suc k) = still_append past l xs ys (suc k) in
-    let e : length xs + suc k ≡ suc (length xs + k) = omega arith in
-    let f : still past l ys (length xs + suc k) ≡ still past l ys (suc (length xs + k)) = ap (still past l ys) e in
+    let e : length xs + suc k ≡ length (x ∷ xs) + k = omega arith in
+    let f : still past l ys (length xs + suc k) ≡ still past l ys (length (x ∷ xs) + k) = ap (still past l ys) e in
     omega (arith, r, f)
 
 -- p before, q after
