@@ -106,5 +106,15 @@ fn verdict_of<L: Ledger, P: Ledger>(
     ensures answer { IfOk result (λ verdict. verdict.yes ≡ selects pattern_found dom.now path.now (selector_at filters.now.active place) x) }
 {
     let mut parts = Steps::<P>::new(blank);
-    test(alloc, dom, path, &filters.table, &filters.active, place, x, checks, &mut parts)
+    test(
+        alloc,
+        dom,
+        path,
+        &filters.table,
+        &filters.active,
+        place,
+        x,
+        checks,
+        &mut parts,
+    )
 }

@@ -140,15 +140,21 @@ past_is t steps c k z h =
       | inl a ↦ inl (ltb-true _ _ a)
       | inr a ↦
           let p = and_parts (level t steps c.here.left c.here.at == level t steps k z) _ a in
-          inr (eqb-true _ _ p.0, elim (or_cases (nat_lt (most_left t steps c) k) _ p.1) [
-            | inl b ↦ inl (ltb-true _ _ b)
-            | inr b ↦
-                let q = and_parts (children_behind t steps c.here.left == children_behind t steps k) _ b in
-                inr (eqb-true _ _ q.0, elim (or_cases (nat_lt (rank t steps c.here.left c.here.at) (rank t steps k z)) _ q.1) [
-                  | inl d ↦ inl (ltb-true _ _ d)
-                  | inr d ↦ let r = and_parts (rank t steps c.here.left c.here.at == rank t steps k z) (nat_lt c.here.left k) d in inr (eqb-true _ _ r.0, ltb-true _ _ r.1)
-                ])
-          ])
+          inr (
+            eqb-true _ _ p.0,
+            elim (or_cases (nat_lt (most_left t steps c) k) _ p.1) [
+              | inl b ↦ inl (ltb-true _ _ b)
+              | inr b ↦
+                  let q = and_parts (children_behind t steps c.here.left == children_behind t steps k) _ b in
+                  inr (
+                    eqb-true _ _ q.0,
+                    elim (or_cases (nat_lt (rank t steps c.here.left c.here.at) (rank t steps k z)) _ q.1) [
+                      | inl d ↦ inl (ltb-true _ _ d)
+                      | inr d ↦ let r = and_parts (rank t steps c.here.left c.here.at == rank t steps k z) (nat_lt c.here.left k) d in inr (eqb-true _ _ r.0, ltb-true _ _ r.1)
+                    ],
+                  )
+            ],
+          )
     ]
 
 -- ---- one turn
@@ -190,14 +196,18 @@ module _ (t : Tree) (path : Bytes) (steps : List Step) where
       let front : length (take k steps) ≡ k = length-take-le k steps (omega (arith, less, st.few, st.fewer)) in
       let split : steps ≡ take k steps ++ (run ++ drop c.here.left steps) = sym (take-append-drop k steps) ∙ ap (λ (r : List Step). take k steps ++ r) cut in
       let whole : (past : ℕ → ℕ → Bool) → still past (all t) steps 0
-          ≡ still past (all t) (take k steps) 0 + (still past (all t) run k + still past (all t) (drop c.here.left steps) (length run + k)) =
+      ≡ still past (all t) (take k steps) 0 + (still past (all t) run k + still past (all t) (drop c.here.left steps) (length run + k)) =
       λ past. ap (λ (l : List Step). still past (all t) l 0) split ∙ still_append past (all t) (take k steps) (run ++ drop c.here.left steps) 0
       ∙ ap (λ n. still past (all t) (take k steps) 0 + still past (all t) (run ++ drop c.here.left steps) n) (omega (arith, front))
       ∙ ap (λ n. still past (all t) (take k steps) 0 + n) (still_append past (all t) run (drop c.here.left steps) k) in
-      omega (arith, whole (Before c), whole (Before d),
+      omega (
+        arith,
+        whole (Before c),
+        whole (Before d),
         still_le (Before c) (Before d) (all t) on (take k steps) 0,
         still_run (Before c) (Before d) (all t) on run k c.here.at st.element now,
-        still_le (Before c) (Before d) (all t) on (drop c.here.left steps) (length run + k))
+        still_le (Before c) (Before d) (all t) on (drop c.here.left steps) (length run + k),
+      )
     where
       few : (o : Option Point) → c.here.left ≤ left_beside t path steps o c.here.left → c.here.left ≤ left_beside_of o c.here.left
       few None h = omega arith
@@ -256,9 +266,12 @@ module _ (t : Tree) (tree : IsTree t) (path : Bytes) (steps : List Step) (c : Cl
 
     pub retreat_asked : unasked_in t steps (retreated t c) + many_asked tests ≤ unasked t steps c
     retreat_asked =
-        omega (arith, tests_asked,
+        omega (
+          arith,
+          tests_asked,
           goes_less t path steps dropped (retreated t c)
-          (retreat_further t tree path steps dropped (tests_stand t tree path steps c st some last is q keep k short before) far.level))
+              (retreat_further t tree path steps dropped (tests_stand t tree path steps c st some last is q keep k short before) far.level),
+        )
 
   pub move_asked : (place : Place) → last ≡ step.Move place → unasked_in t steps (advanced t place c) ≤ unasked t steps c
   move_asked place e = goes_less t path steps c (advanced t place c) (move_further t tree path steps c st flat some last is place e)

@@ -112,7 +112,15 @@ fn decide<P: Ledger>(
         parts.new ≤ parts.old + simple_tests (selector_at active.now f) * length (all dom.now) }
 {
     match active.at(f as usize) {
-        Some(filter) => selects(alloc, dom, path, table, filter.selector.as_slice(), x, parts),
+        Some(filter) => selects(
+            alloc,
+            dom,
+            path,
+            table,
+            filter.selector.as_slice(),
+            x,
+            parts,
+        ),
         None => Ok(false),
     }
 }

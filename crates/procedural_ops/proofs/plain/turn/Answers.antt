@@ -86,4 +86,3 @@ returns-in_err-singles_hold-in-Keep-clause-few g c =
     let h = counts.descend_asked c.args.dom.now c.is_tree.ensures c.args.path.now c.args.steps.now c.args.climb.now c.requires.stands c.requires.level c.requires.some c.index-steps-left.result c.index-steps-left.is
     c.in-Keep.field-0 c.in-Keep.is c.run_start-first.result c.run_start-first.ensures.within c.run_start-first.ensures.run in
     omega (arith, h, c.singles_hold.ensures.asked)
-

@@ -53,11 +53,11 @@ loop-chain-preserved g c = record {
   none = walking.any_more (λ d. is_in (reached c.args.dom.now c.args.path.now d) c.args.x) c.args.selector.now c.loop-chain.chain-index c.chain-item.result c.loop-chain-test.true c.chain-item.is c.loop-chain.invariant.none
       (ap (λ (d : List Step). is_in (reached c.args.dom.now c.args.path.now d) c.args.x) (sym c.as_slice.ensures) ∙ sym c.in_ok-chain_selects.ensures.answer ∙ c.if-branch.false);
   asked = λ plain.
-    let m = simple.simple_more c.args.selector.now c.loop-chain.chain-index c.chain-item.result c.loop-chain-test.true c.chain-item.is plain in
-    let now = c.chain_selects.ensures.asked (ap (list_all is_plain_step) c.as_slice.ensures ∙ m.1) in
-    let one : simple_tests (take (c.loop-chain.chain-index + 1) c.args.selector.now) ≡ simple_tests (take c.loop-chain.chain-index c.args.selector.now) + many_asked c.as_slice.result.now =
-    m.0 ∙ ap (λ (s : List Step). simple_tests (take c.loop-chain.chain-index c.args.selector.now) + many_asked s) (sym c.as_slice.ensures) in
-    let p = simple.product_more (simple_tests (take c.loop-chain.chain-index c.args.selector.now)) (many_asked c.as_slice.result.now) (simple_tests (take (c.loop-chain.chain-index + 1) c.args.selector.now))
-    (length (all c.args.dom.now)) c.args.parts.now c.loop-chain.parts c.chain_selects.new.parts (c.loop-chain.invariant.asked plain) now one in
+      let m = simple.simple_more c.args.selector.now c.loop-chain.chain-index c.chain-item.result c.loop-chain-test.true c.chain-item.is plain in
+      let now = c.chain_selects.ensures.asked (ap (list_all is_plain_step) c.as_slice.ensures ∙ m.1) in
+      let one : simple_tests (take (c.loop-chain.chain-index + 1) c.args.selector.now) ≡ simple_tests (take c.loop-chain.chain-index c.args.selector.now) + many_asked c.as_slice.result.now =
+      m.0 ∙ ap (λ (s : List Step). simple_tests (take c.loop-chain.chain-index c.args.selector.now) + many_asked s) (sym c.as_slice.ensures) in
+      let p = simple.product_more (simple_tests (take c.loop-chain.chain-index c.args.selector.now)) (many_asked c.as_slice.result.now) (simple_tests (take (c.loop-chain.chain-index + 1) c.args.selector.now))
+      (length (all c.args.dom.now)) c.args.parts.now c.loop-chain.parts c.chain_selects.new.parts (c.loop-chain.invariant.asked plain) now one in
       p;
 }
