@@ -1,11 +1,10 @@
 -- A run of tests keeps what all its tests keep, in whatever order they are asked.
-use Rattle.std.proofs.Common.{◌≡◌, ℕ, suc, ◌+◌, ◌-◌, ◌<◌, ◌≤◌, Bool, true, false, ◌&&◌, ◌||◌, not, List, [], ◌∷◌, ◌++◌, take, drop, length, get_or, Option, Some, None, refl, sym, ap, subst, ◌∙◌, arith}
+use Rattle.std.proofs.Common.{◌≡◌, ℕ, suc, ◌+◌, ◌-◌, ◌<◌, ◌≤◌, Bool, true, false, ◌&&◌, ◌||◌, not, List, [], ◌∷◌, ◌++◌, take, drop, length, get_or, Some, None, refl, sym, ap, ◌∙◌, arith}
 use Rattle.std.proofs.lemmas.Bool.{both_ways, and_parts, and_from, false_from_ne_true}
 use Rattle.std.proofs.lemmas.List.{take-append-drop, take-take, drop-take, drop-drop, get_or-drop, append_assoc, append-nil, length-drop, take_all}
 use Rattle.std.proofs.lemmas.List.Folds.{list_all_more}
 use Rattle.std.proofs.Math.Bool as bool
 use Rattle.std.specs.List.{list_all}
-use Rattle.selector_tree.specs.declared.selector.Arg.{Arg}
 use Rattle.selector_tree.specs.declared.selector.Arg.TheVariants.{Literal, Pattern}
 use Rattle.selector_tree.specs.declared.selector.Step.{Step, out-Step}
 use Rattle.selector_tree.specs.declared.selector.Step.TheOpen.{Step-F, Test-F}
@@ -22,14 +21,14 @@ use Rattle.cos_patterns.specs.Found.{pattern_found}
 use Rattle.selector_meaning.specs.Texts.{Bytes}
 use Rattle.selector_meaning.specs.Meaning.{holds}
 use Rattle.selector_match.specs.Kinds.{is_single, is_single_at}
-use Rattle.proper_filters.specs.Proper.{are_inner, is_own, are_own}
+use Rattle.proper_filters.specs.Proper.{are_inner}
 use Rattle.procedural_ops.specs.declared.runs.Cost.{Cost}
 use Rattle.procedural_ops.specs.declared.runs.Cost.TheVariants.{Names, Places, Texts, Patterns}
 use Rattle.procedural_ops.specs.Reaching.{reached, leads_from, some_gives, some_leads}
 use Rattle.procedural_ops.specs.Once.{many_of}
 use Rattle.procedural_ops.specs.Runs.{is_keep, is_keep_at, cost_of, cost_at, is_cost, keeps, keeps_at, single_keeps, nested_holds, nested_keeps, cost_keeps}
 use Rattle.procedural_ops.proofs.Steps as laws
-use Rattle.procedural_ops.proofs.Weights.{all-append, inner_first}
+use Rattle.procedural_ops.proofs.Weights.{inner_first}
 
 -- ---- lists of truth values
 

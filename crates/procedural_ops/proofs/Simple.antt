@@ -1,9 +1,8 @@
 -- How much a run of tests asks, and chains without selectors in their tests.
-use Rattle.std.proofs.Common.{◌≡◌, ℕ, zero, suc, ◌+◌, ◌*◌, ◌<◌, ◌≤◌, Bool, true, false, ◌&&◌, ◌||◌, not, cond, List, [], ◌∷◌, ◌++◌, map, take, drop, length, get_or, Option, Some, None, refl, sym, ap, ◌∙◌, arith}
-use Rattle.std.proofs.lemmas.Bool.{both_ways, and_parts, and_from}
+use Rattle.std.proofs.Common.{◌≡◌, ℕ, zero, suc, ◌+◌, ◌*◌, ◌<◌, ◌≤◌, Bool, true, false, ◌&&◌, ◌||◌, not, cond, List, [], ◌∷◌, map, take, drop, length, get_or, Some, None, refl, sym, ap, ◌∙◌, arith}
+use Rattle.std.proofs.lemmas.Bool.{both_ways, and_parts}
 use Rattle.std.proofs.lemmas.List.{take-append-drop}
 use Rattle.std.specs.List.{list_all}
-use Rattle.selector_tree.specs.declared.selector.Arg.{Arg}
 use Rattle.selector_tree.specs.declared.selector.Arg.TheVariants.{Literal, Pattern}
 use Rattle.selector_tree.specs.declared.selector.Step.{Step, out-Step, fold-Step}
 use Rattle.selector_tree.specs.declared.selector.Step.TheOpen.{Step-F, Test-F}
@@ -16,7 +15,7 @@ use Rattle.selector_meaning.specs.Meaning.{holds}
 use Rattle.selector_match.specs.Kinds.{is_single, is_single_at}
 use Rattle.procedural_ops.specs.declared.runs.Cost.{Cost}
 use Rattle.procedural_ops.specs.declared.runs.Cost.TheVariants.{Names, Places, Texts, Patterns}
-use Rattle.procedural_ops.specs.Runs.{cost_of, cost_at, is_cost, keeps, single_keeps}
+use Rattle.procedural_ops.specs.Runs.{cost_at, is_cost, keeps, single_keeps}
 use Rattle.procedural_ops.specs.Count.{asks, asks_at, many_asked, costs, costs_at, many_costing, is_plain_step, is_plain_step_at, are_plain, simple_step, simple_test, simple_tests}
 use Rattle.procedural_ops.specs.Weight.{total}
 use Rattle.procedural_ops.proofs.Weights.{all-append}

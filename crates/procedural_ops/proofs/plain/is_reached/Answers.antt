@@ -1,4 +1,4 @@
-use Rattle.std.proofs.Common.{◌≡◌, length, ap, sym, subst, ◌∙◌, arith}
+use Rattle.std.proofs.Common.{length, ap, sym, subst, ◌∙◌, arith}
 use Rattle.procedural_ops.specs.Once.{IsLevelAt}
 use Rattle.procedural_ops.specs.Standing.{StandsAt, is_open_at}
 use Rattle.procedural_ops.specs.declared.climb.Climb.{Climb}

@@ -1,4 +1,4 @@
-use Rattle.std.proofs.Common.{◌≡◌, ◌-◌, ◌+◌, ◌≤◌, Option, Some, take, drop, ap, sym, subst, ◌∙◌, arith}
+use Rattle.std.proofs.Common.{◌-◌, Option, Some, take, drop, ap, sym, subst, ◌∙◌, arith}
 use Rattle.procedural_ops.specs.Count.{unasked_in}
 use Rattle.procedural_ops.specs.Once.{GoesFurther}
 use Rattle.procedural_ops.specs.Standing.{GoesOn, is_open_at, remaining_at}
