@@ -1,7 +1,9 @@
 // Which elements of a page are hidden: every filter is asked on every element.
-ghost use Rattle.std.specs.Prelude.{◌≡◌, [], ◌++◌, map, IfOk, OnOk};
+ghost use Rattle.std.specs.Prelude.{◌≡◌, ◌<◌, [], ◌++◌, length, map, IfOk, OnOk};
 ghost use Rattle.cos_patterns.specs.Found.{pattern_found};
 ghost use Rattle.selector_match.specs.Asked.{IsElement};
+ghost use Rattle.selector_meaning.specs.Meaning.{selects};
+ghost use Rattle.procedural_ops.specs.Told.{selector_at};
 ghost use Rattle.selector_meaning.specs.Hidden.{selected_places, with_row, hidden};
 ghost use Rattle.hide_report.specs.Texts.{pair_of};
 ghost use Rattle.cosmetic_top.specs.FilterSets.{MayBeAsked, selectors_of};
@@ -10,10 +12,11 @@ use cos_outside::Steps;
 use cos_patterns::PatternTable;
 use dom_arena::Dom;
 use listed::Numbers;
-use procedural_ops::{next_element, test};
+use procedural_ops::{Verdict, next_element, test};
 use selector_tree::{Active, HiddenRow, Rows};
 use std::alloc::{AllocError, Global};
-use std::sync::ledger::Ledger;
+use std::marker::Brand;
+use std::sync::ledger::{Blank, Ledger};
 
 /// The active filters, with the table of their patterns.
 #[derive(Drop)]
@@ -71,14 +74,47 @@ fn selected_places<L: Ledger>(
     requires element { IsElement dom.now x }
     ensures { IfOk result (λ places. places ≡ selected_places pattern_found dom.now path.now (selectors_of filters.now.active) x) }
 {
-    let table = &filters.table;
     let active = &filters.active;
     let mut places = Numbers::new(alloc);
     for place in 0..active.len() as u32 {
-        let verdict = test(alloc, dom, path, table, active, place, x, checks)?;
+        let blank = Blank::new(1);
+        let verdict = verdict_of::<L, Brand>(alloc, checks, filters, dom, path, place, x, blank)?;
         if verdict.yes() {
             places.push(place)?;
         }
     }
     Ok(places)
+}
+
+// Whether a filter selects an element. What the question asks of the elements is counted by itself.
+fn verdict_of<L: Ledger, P: Ledger>(
+    alloc: Global,
+    checks: &mut Steps<L>,
+    filters: &FilterSet,
+    dom: &Dom,
+    path: &str,
+    place: u32,
+    x: u32,
+    blank: Blank,
+) -> Result<Verdict, AllocError>
+    requires filters { MayBeAsked filters.now }
+    requires place { place < length filters.now.active }
+    requires element { IsElement dom.now x }
+    requires name { blank.name ≡ P.name }
+    requires parts { blank.parts ≡ P.parts }
+    requires some { 0 < blank.parts }
+    ensures answer { IfOk result (λ verdict. verdict.yes ≡ selects pattern_found dom.now path.now (selector_at filters.now.active place) x) }
+{
+    let mut parts = Steps::<P>::new(blank);
+    test(
+        alloc,
+        dom,
+        path,
+        &filters.table,
+        &filters.active,
+        place,
+        x,
+        checks,
+        &mut parts,
+    )
 }

@@ -268,7 +268,7 @@ module _ (steps : List Step) (k i : ℕ) (within : k ≤ i - 1) (some : 0 < i) (
       let e : k + (i - k) ≡ i = omega (arith, within, some) in
       ap (λ (n : ℕ). take n steps) (sym e) ∙ take_cut k (i - k) steps
 
-  run_drop : drop k steps ≡ run ++ drop i steps
+  pub run_drop : drop k steps ≡ run ++ drop i steps
   run_drop =
       let e : k + (i - k) ≡ i = omega (arith, within, some) in
       sym (take-append-drop (i - k) (drop k steps)) ∙ ap (λ (r : List Step). run ++ r) (drop-drop (i - k) k steps ∙ ap (λ (n : ℕ). drop n steps) e)

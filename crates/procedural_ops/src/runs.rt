@@ -1,15 +1,19 @@
 //! Runs of tests in a chain. All tests of a run are asked of one element, the cheapest first.
-ghost use Rattle.std.specs.Prelude.{◌≡◌, ◌≤◌, true, length, take, drop, IfOk};
+ghost use Rattle.std.specs.Prelude.{◌≡◌, ◌≤◌, ◌+◌, true, cond, length, take, drop, IfOk};
 ghost use Rattle.std.specs.List.{list_all};
 ghost use Rattle.selector_match.specs.Asked.{IsElement};
 ghost use Rattle.proper_filters.specs.Proper.{are_own, is_own};
+ghost use Rattle.selector_match.specs.Kinds.{is_single};
+ghost use Rattle.procedural_ops.specs.Count.{costs, many_asked, many_costing};
 ghost use Rattle.procedural_ops.specs.Runs.{is_keep, cost_of, is_cost, cost_keeps, single_keeps};
 
+use cos_outside::Steps;
 use cos_patterns::PatternTable;
 use dom_arena::Dom;
 use selector_match::{holds, is_plain};
 use selector_tree::{Arg, Step, Test};
 use std::alloc::{AllocError, Global};
+use std::sync::ledger::Ledger;
 
 /// What a test without selectors in it looks at, the cheapest first.
 #[derive(Clone, Copy, Debug)]
@@ -56,6 +60,16 @@ fn has_cost(test: &Test, cost: Cost) -> bool
     }
 }
 
+/// Whether no selector stands in a test.
+pub(crate) fn is_single(test: &Test) -> bool
+    ensures { result ≡ is_single test.now }
+{
+    match test {
+        Test::Is(_) | Test::Not(_) | Test::Has(_) => false,
+        _ => true,
+    }
+}
+
 /// Whether a step keeps by a test.
 fn is_keep(step: &Step) -> bool
     ensures { result ≡ is_keep step.now }
@@ -94,36 +108,39 @@ pub(crate) fn run_length(steps: &[Step]) -> usize
     steps.len()
 }
 
-/// Whether all tests of a run hold for an element, those aside that have selectors in them; the cheapest are asked first.
-pub(crate) fn singles_hold(
+/// Whether all tests of a run hold for an element, those aside that have selectors in them; the cheapest are asked first,
+/// and each at most once.
+pub(crate) fn singles_hold<P: Ledger>(
     alloc: Global,
     dom: &Dom,
     path: &str,
     table: &PatternTable,
     run: &[Step],
     x: u32,
+    parts: &mut Steps<P>,
 ) -> Result<bool, AllocError>
     requires element { IsElement dom.now x }
     requires proper { are_own table.now.patterns run.now ≡ true }
-    ensures { IfOk result (λ answer. answer ≡ list_all (single_keeps dom.now path.now x) run.now) }
+    ensures answer { IfOk result (λ answer. answer ≡ list_all (single_keeps dom.now path.now x) run.now) }
+    ensures asked { parts.new ≤ parts.old + many_asked run.now }
 {
-    if !all_of_cost(alloc, dom, path, table, run, Cost::Names, x)? {
+    if !all_of_cost(alloc, dom, path, table, run, Cost::Names, x, parts)? {
         return Ok(false);
     }
-    if !all_of_cost(alloc, dom, path, table, run, Cost::Places, x)? {
+    if !all_of_cost(alloc, dom, path, table, run, Cost::Places, x, parts)? {
         return Ok(false);
     }
-    if !all_of_cost(alloc, dom, path, table, run, Cost::Texts, x)? {
+    if !all_of_cost(alloc, dom, path, table, run, Cost::Texts, x, parts)? {
         return Ok(false);
     }
-    if !all_of_cost(alloc, dom, path, table, run, Cost::Patterns, x)? {
+    if !all_of_cost(alloc, dom, path, table, run, Cost::Patterns, x, parts)? {
         return Ok(false);
     }
     Ok(true)
 }
 
 // Whether those tests of a run hold that cost so much.
-fn all_of_cost(
+fn all_of_cost<P: Ledger>(
     alloc: Global,
     dom: &Dom,
     path: &str,
@@ -131,13 +148,15 @@ fn all_of_cost(
     run: &[Step],
     cost: Cost,
     x: u32,
+    parts: &mut Steps<P>,
 ) -> Result<bool, AllocError>
     requires element { IsElement dom.now x }
     requires proper { are_own table.now.patterns run.now ≡ true }
-    ensures { IfOk result (λ answer. answer ≡ list_all (cost_keeps dom.now path.now cost x) run.now) }
+    ensures answer { IfOk result (λ answer. answer ≡ list_all (cost_keeps dom.now path.now cost x) run.now) }
+    ensures asked { parts.new ≤ parts.old + many_costing cost run.now }
 {
     for step in run {
-        if !step_keeps(alloc, dom, path, table, step, cost, x)? {
+        if !step_keeps(alloc, dom, path, table, step, cost, x, parts)? {
             return Ok(false);
         }
     }
@@ -145,7 +164,7 @@ fn all_of_cost(
 }
 
 // Whether a step keeps an element, where it keeps by a test that costs so much.
-fn step_keeps(
+fn step_keeps<P: Ledger>(
     alloc: Global,
     dom: &Dom,
     path: &str,
@@ -153,15 +172,17 @@ fn step_keeps(
     step: &Step,
     cost: Cost,
     x: u32,
+    parts: &mut Steps<P>,
 ) -> Result<bool, AllocError>
     requires element { IsElement dom.now x }
     requires proper { is_own table.now.patterns step.now ≡ true }
-    ensures { IfOk result (λ answer. answer ≡ cost_keeps dom.now path.now cost x step.now) }
+    ensures answer { IfOk result (λ answer. answer ≡ cost_keeps dom.now path.now cost x step.now) }
+    ensures asked { parts.new ≤ parts.old + cond (costs cost step.now) 1 0 }
 {
     match step {
         Step::Keep(test) => {
             if has_cost(test, cost) {
-                holds(alloc, dom, path, table, test, x)
+                holds(alloc, dom, path, table, test, x, parts)
             } else {
                 Ok(true)
             }

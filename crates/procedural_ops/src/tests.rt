@@ -52,18 +52,24 @@ fn filters(alloc: Global) -> Result<Active, AllocError>
     Ok(active)
 }
 
-fn is_chosen<L: Ledger>(
+fn is_chosen<L: Ledger, P: Ledger>(
     alloc: Global,
     dom: &Dom,
     x: u32,
     checks: &mut Steps<L>,
-) -> Result<bool, Fail> {
+    blank: Blank,
+) -> Result<bool, Fail>
+    requires name { blank.name ≡ P.name }
+    requires parts { blank.parts ≡ P.parts }
+    requires some { 0 < blank.parts }
+{
+    let mut parts = Steps::<P>::new(blank);
     if !is_element(dom, x) {
         return Err(Fail::from("no element"));
     }
     let table = PatternTable::new(alloc);
     let active = filters(alloc)?;
-    let verdict = test(alloc, dom, "/", &table, &active, 0, x, checks)?;
+    let verdict = test(alloc, dom, "/", &table, &active, 0, x, checks, &mut parts)?;
     Ok(verdict.yes() && verdict.element() == x && verdict.filter() == 0)
 }
 
@@ -75,7 +81,7 @@ fn chosen<L: Ledger>(alloc: Global, dom: &Dom, blank: Blank) -> Result<Numbers, 
     let mut checks = Steps::<L>::new(blank);
     let mut found = Numbers::new(alloc);
     for x in [1, 2, 3] {
-        if is_chosen(alloc, dom, x, &mut checks)? {
+        if is_chosen::<L, Brand>(alloc, dom, x, &mut checks, Blank::new(1))? {
             found.push(x)?;
         }
     }

@@ -1,15 +1,20 @@
-ghost use Rattle.std.specs.Prelude.{◌≡◌, ◌+◌, ◌<◌, true, length, IfOk};
+ghost use Rattle.std.specs.Prelude.{◌≡◌, ◌+◌, ◌*◌, ◌<◌, ◌≤◌, true, length, IfOk};
+ghost use Rattle.std.specs.List.{list_all};
+ghost use Rattle.page_tree.specs.Standings.{all};
+ghost use Rattle.page_tree.specs.Directions.{is_in};
 ghost use Rattle.cos_patterns.specs.Found.{pattern_found};
 ghost use Rattle.selector_meaning.specs.Meaning.{selects};
 ghost use Rattle.selector_match.specs.Asked.{IsElement};
-ghost use Rattle.proper_filters.specs.Proper.{is_proper};
+ghost use Rattle.proper_filters.specs.Proper.{is_proper, are_own};
+ghost use Rattle.procedural_ops.specs.Count.{is_plain_step, are_plain, many_asked, simple_tests};
+ghost use Rattle.procedural_ops.specs.Reaching.{reached, is_selected};
 ghost use Rattle.procedural_ops.specs.Told.{selector_at};
 
-use crate::search::is_selected;
+use crate::{plain, search};
 use cos_outside::Steps;
 use cos_patterns::PatternTable;
 use dom_arena::Dom;
-use selector_tree::Active;
+use selector_tree::{Active, Chain, Step};
 use std::alloc::{AllocError, Global};
 use std::marker::Model;
 use std::sync::ledger::Ledger;
@@ -56,8 +61,9 @@ impl Verdict {
 /// Whether the filter at a place among the active ones selects an element.
 ///
 /// The table has each pattern of the filter under its number, and `:others()` stands in the filter's own chains alone. Each
-/// call counts as one check, also where there is no memory.
-pub fn test<L: Ledger>(
+/// call counts as one check, and each test without selectors in it that is asked of an element as one of the `parts`, also
+/// where there is no memory. A filter of combinators and such tests alone asks each of them at most once of each element.
+pub fn test<L: Ledger, P: Ledger>(
     alloc: Global,
     dom: &Dom,
     path: &str,
@@ -66,6 +72,7 @@ pub fn test<L: Ledger>(
     f: u32,
     x: u32,
     checks: &mut Steps<L>,
+    parts: &mut Steps<P>,
 ) -> Result<Verdict, AllocError>
     requires filter { f < length active.now }
     requires element { IsElement dom.now x }
@@ -74,9 +81,11 @@ pub fn test<L: Ledger>(
     ensures element { IfOk result (λ verdict. verdict.element ≡ x) }
     ensures answer { IfOk result (λ verdict. verdict.yes ≡ selects pattern_found dom.now path.now (selector_at active.now f) x) }
     ensures counted { checks.new ≡ checks.old + 1 }
+    ensures asked { are_plain (selector_at active.now f) ≡ true →
+        parts.new ≤ parts.old + simple_tests (selector_at active.now f) * length (all dom.now) }
 {
     checks.tick();
-    let yes = decide(alloc, dom, path, table, active, f, x)?;
+    let yes = decide(alloc, dom, path, table, active, f, x, parts)?;
     Ok(Verdict {
         filter: f,
         element: x,
@@ -85,7 +94,7 @@ pub fn test<L: Ledger>(
 }
 
 // Whether the filter at a place selects an element.
-fn decide(
+fn decide<P: Ledger>(
     alloc: Global,
     dom: &Dom,
     path: &str,
@@ -93,14 +102,72 @@ fn decide(
     active: &Active,
     f: u32,
     x: u32,
+    parts: &mut Steps<P>,
 ) -> Result<bool, AllocError>
     requires filter { f < length active.now }
     requires element { IsElement dom.now x }
     requires proper { is_proper table.now.patterns (selector_at active.now f) ≡ true }
-    ensures { IfOk result (λ yes. yes ≡ selects pattern_found dom.now path.now (selector_at active.now f) x) }
+    ensures answer { IfOk result (λ yes. yes ≡ selects pattern_found dom.now path.now (selector_at active.now f) x) }
+    ensures asked { are_plain (selector_at active.now f) ≡ true →
+        parts.new ≤ parts.old + simple_tests (selector_at active.now f) * length (all dom.now) }
 {
     match active.at(f as usize) {
-        Some(filter) => is_selected(alloc, dom, path, table, filter.selector.as_slice(), x),
+        Some(filter) => selects(
+            alloc,
+            dom,
+            path,
+            table,
+            filter.selector.as_slice(),
+            x,
+            parts,
+        ),
         None => Ok(false),
+    }
+}
+
+// Whether some chain leads from all elements to an element.
+fn selects<P: Ledger>(
+    alloc: Global,
+    dom: &Dom,
+    path: &str,
+    table: &PatternTable,
+    selector: &[Chain],
+    x: u32,
+    parts: &mut Steps<P>,
+) -> Result<bool, AllocError>
+    requires element { IsElement dom.now x }
+    requires proper { is_proper table.now.patterns selector.now ≡ true }
+    ensures answer { IfOk result (λ answer. answer ≡ is_selected dom.now path.now selector.now x) }
+    ensures asked { are_plain selector.now ≡ true →
+        parts.new ≤ parts.old + simple_tests selector.now * length (all dom.now) }
+{
+    for chain in selector {
+        if chain_selects(alloc, dom, path, table, chain.as_slice(), x, parts)? {
+            return Ok(true);
+        }
+    }
+    Ok(false)
+}
+
+// Whether a chain leads from all elements to an element.
+fn chain_selects<P: Ledger>(
+    alloc: Global,
+    dom: &Dom,
+    path: &str,
+    table: &PatternTable,
+    steps: &[Step],
+    x: u32,
+    parts: &mut Steps<P>,
+) -> Result<bool, AllocError>
+    requires element { IsElement dom.now x }
+    requires proper { are_own table.now.patterns steps.now ≡ true }
+    ensures answer { IfOk result (λ answer. answer ≡ is_in (reached dom.now path.now steps.now) x) }
+    ensures asked { list_all is_plain_step steps.now ≡ true →
+        parts.new ≤ parts.old + many_asked steps.now * length (all dom.now) }
+{
+    if plain::is_plain(steps) {
+        plain::is_reached(alloc, dom, path, table, steps, x, parts)
+    } else {
+        search::is_reached(alloc, dom, path, table, steps, x, parts)
     }
 }

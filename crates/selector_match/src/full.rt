@@ -1,5 +1,5 @@
 //! Tests with texts and patterns.
-ghost use Rattle.std.specs.Prelude.{◌≡◌, true, ◌&&◌, IfOk};
+ghost use Rattle.std.specs.Prelude.{◌≡◌, ◌+◌, true, ◌&&◌, IfOk};
 ghost use Rattle.std.specs.List.{list_any};
 ghost use Rattle.page_tree.specs.Standings.{attrs};
 ghost use Rattle.cos_patterns.specs.Found.{pattern_found};
@@ -9,18 +9,40 @@ ghost use Rattle.selector_match.specs.Kinds.{is_single};
 ghost use Rattle.proper_filters.specs.Held.{is_ready, is_held, is_held_or_none};
 
 use crate::below::text_of;
-use crate::plain::{attrs_of, holds_plain};
+use crate::plain::{attrs_of, holds_by_page};
 use crate::texts::holds_text;
+use cos_outside::Steps;
 use cos_patterns::PatternTable;
 use dom_arena::Dom;
 use selector_tree::{Arg, Test};
 use std::alloc::{AllocError, Global};
+use std::sync::ledger::Ledger;
 
 /// Whether a test holds for an element, for tests other than `Is`, `Not` and `Has`.
 ///
 /// The table has each pattern of the test under its number. Memory is taken for a text content, which is joined once, and
-/// by patterns.
-pub fn holds(
+/// by patterns. Each call counts as one of the `parts`, also where there is no memory.
+pub fn holds<P: Ledger>(
+    alloc: Global,
+    dom: &Dom,
+    path: &str,
+    table: &PatternTable,
+    test: &Test,
+    x: u32,
+    parts: &mut Steps<P>,
+) -> Result<bool, AllocError>
+    requires element { IsElement dom.now x }
+    requires single { is_single test.now ≡ true }
+    requires ready { is_ready table.now.patterns test.now ≡ true }
+    ensures answer { IfOk result (λ answer. answer ≡ holds pattern_found dom.now path.now test.now x) }
+    ensures counted { parts.new ≡ parts.old + 1 }
+{
+    parts.tick();
+    holds_by_text(alloc, dom, path, table, test, x)
+}
+
+// The answer for such a test.
+fn holds_by_text(
     alloc: Global,
     dom: &Dom,
     path: &str,
@@ -40,7 +62,7 @@ pub fn holds(
         }
         Test::MatchesPath(arg) => is_found(table, path, arg),
         Test::MatchesAttr { name, value } => has_attr_by(table, dom, x, name, value),
-        _ => Ok(holds_plain(dom, path, test, x)),
+        _ => Ok(holds_by_page(dom, path, test, x)),
     }
 }
 

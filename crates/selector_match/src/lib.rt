@@ -1,6 +1,7 @@
 //! Whether a test holds for an element of a page, and where a combinator leads, asked from the element.
 //!
-//! `holds_plain` answers tests that look at the page alone, without memory, and `holds` those with texts and patterns too.
+//! `holds_plain` answers tests that look at the page alone, without memory, and `holds` those with texts and patterns too;
+//! each raises a counter, so that callers can bound how much is asked.
 //! Selectors within tests are the matter of `procedural_ops`. What each test means is said in `selector_meaning`.
 #![tactic(auto)]
 
@@ -21,11 +22,16 @@ pub use plain::{holds_plain, is_plain};
 
 #[cfg(test)]
 mod tests {
+    ghost use Rattle.std.specs.Prelude.{◌≡◌, ◌<◌};
+
     use super::*;
+    use cos_outside::Steps;
     use dom_arena::{Attrs, Dom, DomError, NewNode};
     use listed::{Names, Text};
     use selector_tree::{Arg, AttrOp, Place, Test};
     use std::alloc::{AllocError, Global};
+    use std::marker::Brand;
+    use std::sync::ledger::{Blank, Ledger};
     use std::test::Fail;
 
     // <div id="a" class="x ad">Hi<!--c--><p></p></div><p class="ad"></p>
@@ -72,11 +78,16 @@ mod tests {
         }
     }
 
-    fn answer(dom: &Dom, test: &Test, x: u32) -> Result<bool, Fail> {
+    fn answer<P: Ledger>(dom: &Dom, test: &Test, x: u32, blank: Blank) -> Result<bool, Fail>
+        requires name { blank.name ≡ P.name }
+        requires parts { blank.parts ≡ P.parts }
+        requires some { 0 < blank.parts }
+    {
         if !is_element(dom, x) || !is_plain(test) {
             return Err(Fail::from("not a row of the table"));
         }
-        Ok(holds_plain(dom, "/a/b", test, x))
+        let mut parts = Steps::<P>::new(blank);
+        Ok(holds_plain(dom, "/a/b", test, x, &mut parts))
     }
 
     #[test]
@@ -115,7 +126,7 @@ mod tests {
             ),
             (Test::WatchAttr(Names::new(alloc)), 4, true),
         ] {
-            let found = answer(&dom, &test, x)?;
+            let found = answer::<Brand>(&dom, &test, x, Blank::new(1))?;
             assert_eq!(rt; found, want, "{test:?} of {x}");
         }
         assert_eq!(rt;

@@ -1,5 +1,5 @@
 //! Tests that look at the page alone.
-ghost use Rattle.std.specs.Prelude.{◌≡◌, true, ◌&&◌, ◌++◌, MatchOption, None, Some, IsTrue, codes};
+ghost use Rattle.std.specs.Prelude.{◌+◌, ◌≡◌, true, ◌&&◌, ◌++◌, MatchOption, None, Some, IsTrue, codes};
 ghost use Rattle.std.specs.List.{list_any};
 ghost use Rattle.std.specs.Str.{bytes_eq};
 ghost use Rattle.page_tree.specs.Facts.{attr, class_list};
@@ -15,13 +15,32 @@ use crate::below::{has_units, is_blank};
 use crate::siblings::{has_beside, is_nth, name_of, place_of};
 use crate::texts::{fits, holds_text};
 use crate::words::has_word;
+use cos_outside::Steps;
 use dom_arena::Dom;
 use listed::Text;
 use selector_tree::{Arg, AttrOp, Test};
+use std::sync::ledger::Ledger;
 
 /// Whether a test holds for an element, for tests other than `Is`, `Not`, `Has`, `HasText` and those with a pattern. It
-/// takes no memory.
-pub fn holds_plain(dom: &Dom, path: &str, test: &Test, x: u32) -> bool
+/// takes no memory, and counts as one of the `parts`.
+pub fn holds_plain<P: Ledger>(
+    dom: &Dom,
+    path: &str,
+    test: &Test,
+    x: u32,
+    parts: &mut Steps<P>,
+) -> bool
+    requires element { IsElement dom.now x }
+    requires plain { is_plain test.now ≡ true }
+    ensures answer { result ≡ holds pattern_found dom.now path.now test.now x }
+    ensures counted { parts.new ≡ parts.old + 1 }
+{
+    parts.tick();
+    holds_by_page(dom, path, test, x)
+}
+
+// The answer for such a test.
+pub(crate) fn holds_by_page(dom: &Dom, path: &str, test: &Test, x: u32) -> bool
     requires element { IsElement dom.now x }
     requires plain { is_plain test.now ≡ true }
     ensures { result ≡ holds pattern_found dom.now path.now test.now x }

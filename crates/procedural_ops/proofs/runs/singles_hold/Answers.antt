@@ -1,24 +1,52 @@
-use Rattle.std.proofs.Common.{sym, ◌∙◌}
+use Rattle.std.proofs.Common.{sym, ◌∙◌, arith}
 use Rattle.procedural_ops.specs.declared.runs.Cost.TheVariants.{Names, Places, Texts, Patterns}
 use Rattle.procedural_ops.proofs.Keeping as keeping
+use Rattle.procedural_ops.proofs.Simple as simple
 use Rattle.procedural_ops.proofs.runs.singles_hold.Goals as goal
 
-pub returns-then-not-branch : goal.returns-then-not-branch
-returns-then-not-branch c = sym (keeping.cost_fails c.args.dom.now c.args.path.now c.args.x c.args.run.now Names (sym c.in_ok-all_of_cost.ensures ∙ c.if-not-branch.true))
+pub returns-then-not-branch-clause-answer : goal.returns-then-not-branch-clause-answer
+returns-then-not-branch-clause-answer g c = sym (keeping.cost_fails c.args.dom.now c.args.path.now c.args.x c.args.run.now Names (sym c.in_ok-all_of_cost.ensures.answer ∙ c.if-not-branch.true))
 
-pub returns-then-not-branch-2 : goal.returns-then-not-branch-2
-returns-then-not-branch-2 c = sym (keeping.cost_fails c.args.dom.now c.args.path.now c.args.x c.args.run.now Places (sym c.in_ok-all_of_cost-2.ensures ∙ c.if-not-branch-2.true))
+pub returns-then-not-branch-2-clause-answer : goal.returns-then-not-branch-2-clause-answer
+returns-then-not-branch-2-clause-answer g c = sym (keeping.cost_fails c.args.dom.now c.args.path.now c.args.x c.args.run.now Places (sym c.in_ok-all_of_cost-2.ensures.answer ∙ c.if-not-branch-2.true))
 
-pub returns-then-not-branch-3 : goal.returns-then-not-branch-3
-returns-then-not-branch-3 c = sym (keeping.cost_fails c.args.dom.now c.args.path.now c.args.x c.args.run.now Texts (sym c.in_ok-all_of_cost-3.ensures ∙ c.if-not-branch-3.true))
+pub returns-then-not-branch-3-clause-answer : goal.returns-then-not-branch-3-clause-answer
+returns-then-not-branch-3-clause-answer g c = sym (keeping.cost_fails c.args.dom.now c.args.path.now c.args.x c.args.run.now Texts (sym c.in_ok-all_of_cost-3.ensures.answer ∙ c.if-not-branch-3.true))
 
-pub returns-then-not-branch-4 : goal.returns-then-not-branch-4
-returns-then-not-branch-4 c = sym (keeping.cost_fails c.args.dom.now c.args.path.now c.args.x c.args.run.now Patterns (sym c.in_ok-all_of_cost-4.ensures ∙ c.if-not-branch-4.true))
+pub returns-then-not-branch-4-clause-answer : goal.returns-then-not-branch-4-clause-answer
+returns-then-not-branch-4-clause-answer g c = sym (keeping.cost_fails c.args.dom.now c.args.path.now c.args.x c.args.run.now Patterns (sym c.in_ok-all_of_cost-4.ensures.answer ∙ c.if-not-branch-4.true))
 
-pub returns : goal.returns
-returns c =
+pub returns-clause-answer : goal.returns-clause-answer
+returns-clause-answer g c =
     sym (keeping.all_costs c.args.dom.now c.args.path.now c.args.x c.args.run.now
-    (sym c.in_ok-all_of_cost.ensures ∙ c.if-not-branch.false)
-    (sym c.in_ok-all_of_cost-2.ensures ∙ c.if-not-branch-2.false)
-    (sym c.in_ok-all_of_cost-3.ensures ∙ c.if-not-branch-3.false)
-    (sym c.in_ok-all_of_cost-4.ensures ∙ c.if-not-branch-4.false))
+    (sym c.in_ok-all_of_cost.ensures.answer ∙ c.if-not-branch.false)
+    (sym c.in_ok-all_of_cost-2.ensures.answer ∙ c.if-not-branch-2.false)
+    (sym c.in_ok-all_of_cost-3.ensures.answer ∙ c.if-not-branch-3.false)
+    (sym c.in_ok-all_of_cost-4.ensures.answer ∙ c.if-not-branch-4.false))
+
+pub returns-in_err-all_of_cost-clause-asked : goal.returns-in_err-all_of_cost-clause-asked
+returns-in_err-all_of_cost-clause-asked g c = omega (arith, simple.all_costs_asked c.args.run.now, c.all_of_cost.ensures.asked)
+
+pub returns-then-not-branch-clause-asked : goal.returns-then-not-branch-clause-asked
+returns-then-not-branch-clause-asked g c = omega (arith, simple.all_costs_asked c.args.run.now, c.all_of_cost.ensures.asked)
+
+pub returns-in_err-all_of_cost-2-clause-asked : goal.returns-in_err-all_of_cost-2-clause-asked
+returns-in_err-all_of_cost-2-clause-asked g c = omega (arith, simple.all_costs_asked c.args.run.now, c.all_of_cost.ensures.asked, c.all_of_cost-2.ensures.asked)
+
+pub returns-then-not-branch-2-clause-asked : goal.returns-then-not-branch-2-clause-asked
+returns-then-not-branch-2-clause-asked g c = omega (arith, simple.all_costs_asked c.args.run.now, c.all_of_cost.ensures.asked, c.all_of_cost-2.ensures.asked)
+
+pub returns-in_err-all_of_cost-3-clause-asked : goal.returns-in_err-all_of_cost-3-clause-asked
+returns-in_err-all_of_cost-3-clause-asked g c = omega (arith, simple.all_costs_asked c.args.run.now, c.all_of_cost.ensures.asked, c.all_of_cost-2.ensures.asked, c.all_of_cost-3.ensures.asked)
+
+pub returns-then-not-branch-3-clause-asked : goal.returns-then-not-branch-3-clause-asked
+returns-then-not-branch-3-clause-asked g c = omega (arith, simple.all_costs_asked c.args.run.now, c.all_of_cost.ensures.asked, c.all_of_cost-2.ensures.asked, c.all_of_cost-3.ensures.asked)
+
+pub returns-in_err-all_of_cost-4-clause-asked : goal.returns-in_err-all_of_cost-4-clause-asked
+returns-in_err-all_of_cost-4-clause-asked g c = omega (arith, simple.all_costs_asked c.args.run.now, c.all_of_cost.ensures.asked, c.all_of_cost-2.ensures.asked, c.all_of_cost-3.ensures.asked, c.all_of_cost-4.ensures.asked)
+
+pub returns-then-not-branch-4-clause-asked : goal.returns-then-not-branch-4-clause-asked
+returns-then-not-branch-4-clause-asked g c = omega (arith, simple.all_costs_asked c.args.run.now, c.all_of_cost.ensures.asked, c.all_of_cost-2.ensures.asked, c.all_of_cost-3.ensures.asked, c.all_of_cost-4.ensures.asked)
+
+pub returns-clause-asked : goal.returns-clause-asked
+returns-clause-asked g c = omega (arith, simple.all_costs_asked c.args.run.now, c.all_of_cost.ensures.asked, c.all_of_cost-2.ensures.asked, c.all_of_cost-3.ensures.asked, c.all_of_cost-4.ensures.asked)
