@@ -19,6 +19,3 @@ pub use below::next_below;
 pub use full::holds;
 pub use places::{in_place, is_near, source};
 pub use plain::{holds_plain, is_plain};
-
-#[cfg(test)]
-mod tests;
