@@ -11,7 +11,7 @@ ghost use Rattle.cosmetic_top.specs.FilterSets.{MayBeAsked, selectors_of};
 use cos_outside::Steps;
 use cos_patterns::PatternTable;
 use dom_arena::Dom;
-use listed::Numbers;
+use listed::{Numbers, Text};
 use procedural_ops::{Verdict, next_element, test};
 use selector_tree::{Active, HiddenRow, Rows};
 use std::alloc::{AllocError, Global};
@@ -32,7 +32,7 @@ pub fn hidden_rows<L: Ledger>(
     checks: &mut Steps<L>,
     filters: &FilterSet,
     dom: &Dom,
-    path: &str,
+    path: &Text,
 ) -> Result<Rows, AllocError>
     requires { MayBeAsked filters.now }
     ensures { IfOk result (λ rows. map pair_of rows ≡ hidden pattern_found dom.now path.now (selectors_of filters.now.active)) }
@@ -67,7 +67,7 @@ fn selected_places<L: Ledger>(
     checks: &mut Steps<L>,
     filters: &FilterSet,
     dom: &Dom,
-    path: &str,
+    path: &Text,
     x: u32,
 ) -> Result<Numbers, AllocError>
     requires filters { MayBeAsked filters.now }
@@ -92,7 +92,7 @@ fn verdict_of<L: Ledger, P: Ledger>(
     checks: &mut Steps<L>,
     filters: &FilterSet,
     dom: &Dom,
-    path: &str,
+    path: &Text,
     place: u32,
     x: u32,
     blank: Blank,
@@ -109,7 +109,7 @@ fn verdict_of<L: Ledger, P: Ledger>(
     test(
         alloc,
         dom,
-        path,
+        path.as_str(),
         &filters.table,
         &filters.active,
         place,

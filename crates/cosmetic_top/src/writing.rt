@@ -192,7 +192,7 @@ fn write_page_step<O: Sink, L: Ledger>(
     ensures later { O.faults out.old ≤ O.faults out.new }
     ensures fault { IsErrOf result ReportError.WriteFault → Rose (O.faults out.old) (O.faults out.new) }
 {
-    let rows = hidden_rows(alloc, checks, filters, &page.tree, page.path.as_str())?;
+    let rows = hidden_rows(alloc, checks, filters, &page.tree, &page.path)?;
     write_step(
         alloc,
         out,

@@ -1,4 +1,4 @@
-use Rattle.std.proofs.Common.{ap, ◌∙◌}
+use Rattle.std.proofs.Common.{ap, ◌∙◌, List, ℕ, rules}
 use Rattle.cos_source.specs.Mark.{without_mark}
 use Rattle.cosmetic_top.proofs.Reports.{report_text}
 use Rattle.cosmetic_top.proofs.reading.read_filters.Goals as goal
