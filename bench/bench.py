@@ -16,8 +16,8 @@ It makes its own input in a temporary folder.
 - The class and id lines of a real list, where Debian's webext-ublock-origin-firefox is installed, else lines made in that shape,
   on a nested page: what one test costs.
 - 200 filters of each operator on a nested page: what one test costs, by operator.
-- Lists and pages of bad input: each run has to end with status 0. Chains of descendants that all fit aren't among them yet, nor
-  nested `:has()` with other tests beside it: their cost grows with the depth of the page to the power of how many there are.
+- Lists and pages of bad input: each run has to end with status 0. Nested `:has()` with other tests
+  beside it isn't among them yet: its cost grows with the depth of the page to the power of how many there are.
 - A script of changes has every element asked again after each line: its time should grow as the number of its lines does,
   and its peak memory should not."""
 
