@@ -79,6 +79,10 @@ impl<T: Drop> Listed<T> {
         ensures ok { OnOk result (self.new ≡ self.old ++ item ∷ []) }
         ensures err { OnErr result (self.new ≡ self.old) }
     {
+        // Most lists of a page or a selector hold one item, and a vector would take room for four at its first.
+        if self.items.is_empty() {
+            self.items.reserve_exact(1)?;
+        }
         self.items.push(item)?;
         Ok(())
     }
