@@ -1,4 +1,4 @@
-use Rattle.std.proofs.Common.{◌-◌, ap, ◌∙◌, take, length, arith}
+use Rattle.std.proofs.Common.{◌∙◌, arith}
 use Rattle.html_tree.proofs.Sums.{take_enough, pop_take}
 use Rattle.html_tree.proofs.chain.OpenNames.truncate.Goals as goal
 
