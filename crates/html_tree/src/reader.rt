@@ -50,7 +50,7 @@ impl From<AllocError> for PageError {
 }
 
 /// How many of the open elements a token leaves.
-fn left_by(chain: &OpenNames, token: Token) -> usize
+fn left_by<'a>(chain: &OpenNames<'a>, token: Token<'a>) -> usize
     ensures within { result ≤ length chain.now }
     ensures left { Leaves (role_of (token_of token.entry).piece) chain.now result }
 {
