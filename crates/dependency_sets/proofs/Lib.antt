@@ -1,1 +1,6 @@
 pub mod Depths
+pub mod SetLaws
+pub mod Members
+pub mod Nearby
+pub mod Chains
+pub mod Closing

@@ -1,0 +1,24 @@
+-- Lists that are sorted and have no repeats.
+use Rattle.std.proofs.Common.{◌≡◌, Bool, true, false, ◌||◌, List, [], ◌∷◌, cond, refl, sym, ap, ◌∙◌}
+use Rattle.std.specs.List.{list_any, dedup, dedup_from}
+
+or_twice : (a b : Bool) → (a || b) ≡ (a || (a || b))
+or_twice true b = refl
+or_twice false b = refl
+
+-- what stands twice is found as it is found once
+module _ {X : Type 0} (E : X → X → Bool) (exact : (x y : X) → E x y ≡ true → x ≡ y) (p : X → Bool) where
+  any-dedup_from : (k : X) (xs : List X) → list_any p (dedup_from E k xs) ≡ (p k || list_any p xs)
+  any-dedup_from k [] = refl
+  any-dedup_from k (x ∷ xs) = by (E x k) refl (any-dedup_from k xs) (any-dedup_from x xs)
+    where
+      by : (b : Bool) → E x k ≡ b → list_any p (dedup_from E k xs) ≡ (p k || list_any p xs) → list_any p (dedup_from E x xs) ≡ (p x || list_any p xs) →
+          list_any p (cond b (dedup_from E k xs) (k ∷ dedup_from E x xs)) ≡ (p k || (p x || list_any p xs))
+      by true e same other =
+          same ∙ or_twice (p k) (list_any p xs)
+          ∙ ap (λ (y : X). p k || (p y || list_any p xs)) (sym (exact x k e))
+      by false e same other = ap (λ b. p k || b) other
+
+  pub any-dedup : (xs : List X) → list_any p (dedup E xs) ≡ list_any p xs
+  any-dedup [] = refl
+  any-dedup (x ∷ xs) = any-dedup_from x xs
