@@ -4,3 +4,5 @@ pub mod Members
 pub mod Nearby
 pub mod Chains
 pub mod Closing
+pub mod Leading
+pub mod Touched

@@ -11,6 +11,10 @@ use Rattle.dependency_sets.specs.declared.near.Near.TheVariants.{Child, Parent, 
 abbrev pub with_number : List ℕ → ℕ → List ℕ
 with_number numbers n = if is_in numbers n then numbers else numbers ++ n ∷ []
 
+-- the same members
+abbrev pub HasSame : List ℕ → List ℕ → Type 0
+HasSame xs ys = (x : ℕ) → is_in xs x ≡ is_in ys x
+
 -- one step, and any number of such steps
 abbrev pub one_step : Near → Direction
 one_step Child = to_child
@@ -28,6 +32,10 @@ all_steps Previous = to_before
 pub record Adds (p : ℕ → Bool) (old new : List ℕ) : Type 0 where
   pub members : (x : ℕ) → is_in new x ≡ (is_in old x || p x)
   pub begins : (more : List ℕ) × (new ≡ old ++ more)
+
+-- the new numbers are the old ones and those that pass
+abbrev pub Gains : (ℕ → Bool) → List ℕ → List ℕ → Type 0
+Gains p old new = (x : ℕ) → is_in new x ≡ (is_in old x || p x)
 
 module _ (t : Tree) where
   -- whether the number is that of the document or of an element
