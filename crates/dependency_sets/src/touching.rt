@@ -86,9 +86,11 @@ fn add_by(
 {
     dom.is_tree();
     if observes(&sensor.observes, change) {
+        let route = sensor.route.as_slice();
         let places = places_of(alloc, dom, change)?;
-        let reached = follow(alloc, dom, sensor.route.as_slice(), places)?;
-        add_elements(reached.as_slice(), found)
+        let reached = follow(alloc, dom, route, places)?;
+        let numbers = reached.as_slice();
+        add_elements(numbers, found)
     } else {
         Ok(())
     }
