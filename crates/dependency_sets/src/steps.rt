@@ -57,7 +57,12 @@ fn led_from(alloc: Global, dom: &Dom, way: Way, from: &[u32]) -> Result<Reached,
 }
 
 // Where the directions of a route lead from some places, one after another.
-pub(crate) fn follow(alloc: Global, dom: &Dom, route: &[Way], from: Reached) -> Result<Reached, AllocError>
+pub(crate) fn follow(
+    alloc: Global,
+    dom: &Dom,
+    route: &[Way],
+    from: Reached,
+) -> Result<Reached, AllocError>
     requires { ArePlaces dom.now from }
     ensures same { IfOk result (λ to. HasSame to (spread dom.now route.now from)) }
     ensures places { IfOk result (λ to. ArePlaces dom.now to) }

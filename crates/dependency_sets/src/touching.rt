@@ -20,7 +20,12 @@ use std::alloc::{AllocError, Global};
 
 /// The elements that a change can have touched: those that the sensors lead to, and those that came or moved. It is asked in
 /// the tree after the change.
-pub fn dirty(alloc: Global, dom: &Dom, sensors: &[Sensor], change: &Change) -> Result<NodeSet, AllocError>
+pub fn dirty(
+    alloc: Global,
+    dom: &Dom,
+    sensors: &[Sensor],
+    change: &Change,
+) -> Result<NodeSet, AllocError>
     requires { IsNamed change.now dom.now }
     ensures { IfOk result (λ set. HasSame set (dirty change.now dom.now sensors.now)) }
 {
@@ -33,7 +38,12 @@ pub fn dirty(alloc: Global, dom: &Dom, sensors: &[Sensor], change: &Change) -> R
 
 /// The elements that the sensors which observe a change lead to, from where it took place. Where none observes it, no node
 /// is looked at.
-pub fn spread(alloc: Global, dom: &Dom, sensors: &[Sensor], change: &Change) -> Result<NodeSet, AllocError>
+pub fn spread(
+    alloc: Global,
+    dom: &Dom,
+    sensors: &[Sensor],
+    change: &Change,
+) -> Result<NodeSet, AllocError>
     requires { IsNamed change.now dom.now }
     ensures { IfOk result (λ set. (x : ℕ) →
         is_in set x ≡ (is_in (all dom.now) x && is_reached change.now dom.now sensors.now x)) }
@@ -97,7 +107,12 @@ fn add_by(
 }
 
 // Adds the elements that came or moved.
-fn add_brought(alloc: Global, dom: &Dom, change: &Change, found: &mut Vec<u32>) -> Result<(), AllocError>
+fn add_brought(
+    alloc: Global,
+    dom: &Dom,
+    change: &Change,
+    found: &mut Vec<u32>,
+) -> Result<(), AllocError>
     ensures { OnOk result (Gains (λ x. is_in (all dom.now) x && brought change.now dom.now x)
         found.old.items found.new.items) }
 {
@@ -158,9 +173,11 @@ fn places_of(alloc: Global, dom: &Dom, change: &Change) -> Result<Reached, Alloc
         Change::Chars { node } => one_place(alloc, dom, parent_of(dom, *node)),
         Change::Came { parent, .. } => one_place(alloc, dom, *parent),
         Change::Went { parent } => one_place(alloc, dom, *parent),
-        Change::Moved { old_parent, new_parent, .. } => {
-            two_places(alloc, dom, *old_parent, *new_parent)
-        }
+        Change::Moved {
+            old_parent,
+            new_parent,
+            ..
+        } => { two_places(alloc, dom, *old_parent, *new_parent) }
         Change::Path => one_place(alloc, dom, 0),
     }
 }

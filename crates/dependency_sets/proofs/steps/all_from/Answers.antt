@@ -7,5 +7,5 @@ pub close-requires : goal.close-requires
 close-requires c = led_places c.args.dom.now (one_step c.args.near) c.args.from.now c.in_ok-to.to c.in_ok-to.ensures
 
 pub returns : goal.returns
-returns c = 
+returns c =
     all_from c.args.dom.now c.is_tree.ensures c.args.near c.args.from.now c.in_ok-to.to c.close.new.found c.requires c.in_ok-to.ensures c.in_ok-close.ensures

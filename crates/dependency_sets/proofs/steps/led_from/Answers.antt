@@ -35,6 +35,6 @@ returns-in-true c = λ x.
     ∙ ap (λ w. is_in (led c.args.dom.now w c.args.from.now) x) (sym c.in-Whole.is)
 
 pub returns-in-false : goal.returns-in-false
-returns-in-false c = 
+returns-in-false c =
     rw c.in-Whole.is
     (if_ok c.all_from-in-false.result (λ to h. to_whole c.args.dom.now c.args.from.now to (sym c.is_empty.ensures ∙ c.in-false.is) h) c.all_from-in-false.ensures)

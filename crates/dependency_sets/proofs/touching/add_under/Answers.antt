@@ -5,7 +5,7 @@ use Rattle.dependency_sets.proofs.Touched.{under_is}
 use Rattle.dependency_sets.proofs.touching.add_under.Goals as goal
 
 pub returns : goal.returns
-returns c = 
+returns c =
     on_ok c.add_elements.result
     (λ g x.
     g x

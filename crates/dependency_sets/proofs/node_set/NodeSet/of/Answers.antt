@@ -10,7 +10,7 @@ use Rattle.dependency_sets.proofs.SetLaws.{any-dedup, ties}
 use Rattle.dependency_sets.proofs.node_set.NodeSet.of.Goals as goal
 
 pub invariant_of-result : goal.invariant_of-result
-invariant_of-result c = 
+invariant_of-result c =
     rw (dedup_is nat_eq c.sort_unstable.new.self.items c.dedup.new.self.items c.dedup.ensures.filtered)
     (IsStrictlySortedBy-dedup nat_cmp_total ties c.sort_unstable.new.self.items c.sort_unstable.ensures.sorted)
 
