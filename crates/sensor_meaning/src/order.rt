@@ -58,7 +58,11 @@ fn compare_routes(a: &[Way], b: &[Way]) -> Ordering
     let mut right = b;
     'ways: loop {
         match left.split_first() {
-            None => return if right.is_empty() { Ordering::Equal } else { Ordering::Less },
+            None => return if right.is_empty() {
+                Ordering::Equal
+            } else {
+                Ordering::Less
+            },
             Some((x, more)) => match right.split_first() {
                 None => return Ordering::Greater,
                 Some((y, others)) => match place_of(*x).cmp(&place_of(*y)) {
