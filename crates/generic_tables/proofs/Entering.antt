@@ -1,13 +1,12 @@
 -- Elements that come into tables, and go.
-use Rattle.std.proofs.Common.{◌≡◌, ◌∙◌, ◌&&◌, ◌||◌, ◌==◌, not, ℕ, Bool, true, false, List, [], ◌∷◌, refl, sym, ap, ap₂, inl, inr}
+use Rattle.std.proofs.Common.{◌≡◌, ◌∙◌, ◌&&◌, ◌||◌, ◌==◌, not, ℕ, Bool, true, false, refl, sym, ap, inl, inr}
 use Rattle.std.proofs.lemmas.Bool.{cases_Bool, eqb-true, false≢true}
 use Rattle.page_tree.specs.Forest.{Tree}
-use Rattle.page_tree.specs.Directions.{is_in}
 use Rattle.generic_tables.specs.declared.keys.Key.{Key}
 use Rattle.generic_tables.specs.declared.filed.Filed.{Filed}
 use Rattle.generic_tables.specs.Keys.{carries}
 use Rattle.generic_tables.specs.Filed.{holds, IsSame, IsBetween}
-use Rattle.generic_tables.proofs.Written.{eq-turned, or_false, and_true}
+use Rattle.generic_tables.proofs.Written.{or_false}
 
 -- an element that was put in halfway, and then taken out
 pub undone : (t : Tree) (n : ℕ) (old halfway new : Filed) → ((k : Key) → holds old k n ≡ false) → IsBetween t n old halfway →

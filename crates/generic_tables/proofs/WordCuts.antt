@@ -8,7 +8,7 @@ use Rattle.std.proofs.lemmas.List.{get_or-drop}
 use Rattle.std.proofs.lemmas.List.Sums.{prefix_len-le-length}
 use Rattle.std.proofs.lemmas.Bool.{cases_lt, eqb-true, and_right, lt-leb, false≢true}
 use Rattle.std.proofs.lemmas.Str.{IsCharBoundary-end, IsCharBoundary-before_ascii}
-use Rattle.page_tree.specs.Words.{words, words_from, kept}
+use Rattle.page_tree.specs.Words.{words}
 use Rattle.selector_match.proofs.WordLaws.{first_word}
 
 words-behind : (n : ℕ) (text : List ℕ) → n ≤ length text → IsAsciiWhitespaceBelow text n → words (drop n text) ≡ words text

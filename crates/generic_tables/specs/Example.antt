@@ -1,11 +1,9 @@
 -- Keys of worked chains, and of a worked element.
 use Rattle.std.specs.Prelude.{◌≡◌, ℕ, true, false, [], ◌∷◌, List, codes, refl}
-use Rattle.std.proofs.Common.{ap, sym, ◌∙◌}
 use Rattle.selector_tree.specs.declared.selector.Step.{Step}
 use Rattle.selector_tree.specs.declared.selector.Step.TheVariants as step
-use Rattle.selector_tree.specs.declared.selector.Test.{Test}
 use Rattle.selector_tree.specs.declared.selector.Test.TheVariants as test
-use Rattle.page_tree.specs.Forest.{element, Forest, empty, node, Tree}
+use Rattle.page_tree.specs.Forest.{element, empty, node, Tree}
 use Rattle.page_tree.specs.Standings.{elements, standing}
 use Rattle.generic_tables.specs.declared.keys.Key.TheVariants as key
 use Rattle.generic_tables.specs.Keys.{key_of_chain, carries}

@@ -2,7 +2,7 @@
 use Rattle.std.proofs.Common.{◌≡◌, ◌∙◌, ℕ, Bool, true, false, ◌&&◌, ◌||◌, not, inl, inr, List, [], ◌∷◌, cond, refl, sym, ap}
 use Rattle.std.proofs.lemmas.Bool.{cases_Bool, false≢true}
 use Rattle.page_tree.specs.Directions.{is_in}
-use Rattle.retest_laws.specs.Pending.{Pairs, IsRightBut, IsExact, HasKeys, SeesChange, Stage, Leads, among, either, asked_again, last_elements, last_answers, dirtied, marks_left}
+use Rattle.retest_laws.specs.Pending.{Pairs, IsRightBut, SeesChange, among, either, last_elements, last_answers, dirtied, marks_left}
 use Rattle.retest_laws.specs.Laws.{Noted, Retested, Resting, Starting, Dropped}
 
 neither : (a b : Bool) → (a || b) ≡ false → (a ≡ false) × (b ≡ false)

@@ -1,6 +1,6 @@
 -- Two filters and three elements, computed. Filter 0 selected 1 and 2; then 3 came, and 2 was touched.
-use Rattle.std.specs.Prelude.{◌≡◌, ℕ, Bool, true, false, ◌==◌, ◌&&◌, ◌||◌, List, [], ◌∷◌, refl}
-use Rattle.retest_laws.specs.Pending.{Pairs, Stage, asked_again, among, dirtied, marks_left, last_elements, due_at, budget}
+use Rattle.std.specs.Prelude.{◌≡◌, true, false, ◌==◌, ◌&&◌, ◌||◌, [], ◌∷◌, refl}
+use Rattle.retest_laws.specs.Pending.{Pairs, Stage, asked_again, dirtied, marks_left, budget}
 
 abbrev marks : Pairs
 marks f x = f == 0 && (x == 1 || x == 2)

@@ -1,4 +1,4 @@
-use Rattle.std.proofs.Common.{◌≡◌, ◌∙◌, ◌||◌, ◌==◌, ℕ, List, [], Option, Some, None, ◌&&◌, rules, sym, ap, refl, subst}
+use Rattle.std.proofs.Common.{◌≡◌, ◌∙◌, ◌||◌, ◌==◌, ℕ, List, [], Option, Some, ◌&&◌, rules, sym, ap, refl, subst}
 use Rattle.std.specs.Prelude.{unwrap_or, string_bytes}
 use Rattle.std.proofs.lemmas.Map.Text.{hash_map_updates_text}
 use Rattle.page_tree.specs.Directions.{is_in}

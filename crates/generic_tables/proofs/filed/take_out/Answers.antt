@@ -1,4 +1,4 @@
-use Rattle.std.proofs.Common.{◌≡◌, ◌∙◌, ◌&&◌, ◌==◌, not, ℕ, List, [], Option, Some, rules, ap}
+use Rattle.std.proofs.Common.{◌∙◌, ◌&&◌, ◌==◌, not, ℕ, List, [], Option, Some, rules, ap}
 use Rattle.std.specs.Prelude.{unwrap_or}
 use Rattle.std.proofs.lemmas.Map.Text.{hash_map_updates_text}
 use Rattle.page_tree.specs.Directions.{is_in}

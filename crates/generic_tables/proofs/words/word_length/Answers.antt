@@ -1,4 +1,4 @@
-use Rattle.std.proofs.Common.{◌≡◌, ◌∙◌, List, ℕ, None, ap, subst, sym}
+use Rattle.std.proofs.Common.{◌∙◌, ap}
 use Rattle.std.specs.List.{position}
 use Rattle.std.specs.Char.{is_ascii_whitespace}
 use Rattle.selector_match.proofs.WordLaws.{no_space}
