@@ -11,3 +11,6 @@ mod pieces;
 pub use options::HideOptions;
 pub use page::Page;
 pub use pattern::{AddressPattern, Begin};
+
+#[cfg(test)]
+mod tests;
