@@ -7,3 +7,6 @@ mod item;
 mod scope;
 
 pub use scope::{Item, Scope, ScopeRead, Target};
+
+#[cfg(test)]
+mod tests;
