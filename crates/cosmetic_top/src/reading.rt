@@ -16,7 +16,7 @@ use crate::{FILE_LIMIT, Status};
 use cos_outside::Shelf;
 use cos_patterns::{Maker, PatternTable};
 use cos_source::without_mark;
-use list_reader::{ListRead, Notices, read_list};
+use list_reader::{HidingLines, Notices, read_hiding_lines};
 use listed::{Bytes, Text};
 use mutation_script::PageState;
 use std::alloc::{AllocError, Global};
@@ -78,7 +78,7 @@ fn read_filters<M: Maker>(
 {
     let Inputs { list, tree, script } = inputs;
     let mut table = PatternTable::new(alloc);
-    let ListRead { filters, notices } = read_list(
+    let HidingLines { filters, notices } = read_hiding_lines(
         alloc,
         without_mark(list.as_slice()),
         1,

@@ -1,15 +1,21 @@
-//! The reader of filter lists: each line is nothing, a filter, or noted for its kind or its cause.
+//! The reader of filter lists: each line gives nothing, a filter, an exception or a page option, or is noted for its kind or
+//! its cause.
 //!
-//! `specs/Lines.antt` says what a line is, and `Filters.antt` what a list gives.
+//! `specs/Entries.antt` says what a list gives. The reader of lines that hide alone, which the program uses until its command
+//! reads whole lists, has its definitions in `Lines.antt` and `Filters.antt`.
 #![tactic(auto)]
 
+mod entries;
 mod form;
+mod hiding;
 mod line;
+mod list;
 mod notice;
-mod read;
+mod unclosed;
 
+pub use hiding::{HidingLines, read_hiding_lines};
+pub use list::read_list;
 pub use notice::{Notice, Notices};
-pub use read::{ListRead, read_list};
 
 #[cfg(test)]
 mod tests;

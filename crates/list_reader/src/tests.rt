@@ -10,7 +10,7 @@ fn a_list_of_lines_of_each_kind_is_read(rt: HostRuntime) -> Result<(), Fail> {
     let mut maker = CrateMaker::new(alloc);
     let source =
         b"! c\n## .ad \n##\n  ##a:foo()\r\n##p:has-text(/[/)\n\n##a:hover\n##a:remove()\n##+js(x)\n##p\n\xff\n";
-    let read = read_list(alloc, source, 7, &mut table, &mut maker)?;
+    let read = read_hiding_lines(alloc, source, 7, &mut table, &mut maker)?;
     let notices = [
         aside(1, Kind::NotYet),
         malformed(3, Cause::EmptyPart, 2),

@@ -8,7 +8,7 @@ use Rattle.list_reader.specs.Meanings.{meaning_of, IsProperLine}
 use Rattle.cos_patterns.proofs.Extensions.{extends_self, extends_through}
 use Rattle.list_reader.proofs.Lists.{few_lines, proper_all}
 use Rattle.list_reader.proofs.Steps.{open_filters, open_notices, pushed_filter, pushed_notice, none_proper, pushed_proper, few_left, few_pushed}
-use Rattle.list_reader.proofs.read.read_list.Goals as goal
+use Rattle.list_reader.proofs.hiding.read_hiding_lines.Goals as goal
 
 pub lines-init : goal.lines-init
 lines-init g c = record {

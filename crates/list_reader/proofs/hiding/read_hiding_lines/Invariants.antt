@@ -3,7 +3,7 @@ use Rattle.cos_patterns.specs.Tables.{Agrees, Extends}
 use Rattle.cos_source.specs.Lines.{lines_of, numbered}
 use Rattle.list_reader.specs.Filters.{unnumbered_filter, filters_in, notices_in, IsProperFilter}
 use Rattle.selector_parser.specs.Lasting.{Lasts}
-use Rattle.list_reader.proofs.read.read_list.Given as goal
+use Rattle.list_reader.proofs.hiding.read_hiding_lines.Given as goal
 
 -- what was read, and what the lines that are left give, is what all lines give
 abbrev pub invariant-lines : goal.invariant-lines

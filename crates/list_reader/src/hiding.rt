@@ -15,7 +15,7 @@ use std::alloc::{AllocError, Global};
 
 /// What a list gives.
 #[derive(Drop)]
-pub struct ListRead {
+pub struct HidingLines {
     /// Its filters, in the order of lines.
     pub filters: Active,
     /// What is said of the lines that give none.
@@ -23,13 +23,13 @@ pub struct ListRead {
 }
 
 /// Reads all lines of a list. `number` is the list's place among the lists, from 1.
-pub fn read_list<M: Maker>(
+pub fn read_hiding_lines<M: Maker>(
     alloc: Global,
     bytes: &[u8],
     number: u32,
     table: &mut PatternTable,
     maker: &mut M,
-) -> Result<ListRead, AllocError>
+) -> Result<HidingLines, AllocError>
     requires size { length bytes.now < 2 ^ 32 }
     requires agrees { Agrees table.old (M.large maker.old) (M.unread maker.old) }
     ensures agrees { Agrees table.new (M.large maker.new) (M.unread maker.new) }
@@ -59,7 +59,7 @@ pub fn read_list<M: Maker>(
             ListLine::Noted(finding) => notices.push(notice_of(line.number, finding))?,
         }
     }
-    Ok(ListRead { filters, notices })
+    Ok(HidingLines { filters, notices })
 }
 
 // The filter of a line that hides what its selector selects.
