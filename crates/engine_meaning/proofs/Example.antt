@@ -36,32 +36,32 @@ pair_filters =
 -- both go at once: neither is gone when the other is judged
 both_taken : taken never pair_filters (codes "/") pair ≡ taken_row 1 1 (codes "a") (0 ∷ []) ∷ taken_row 1 2 (codes "b") (1 ∷ []) ∷ []
 unfolding elements standing
-both_taken = rw (step_of-Keep, holds-Tag, step_of-Keep, holds-Has, step_of-Move, step_of-Keep, holds-Tag, step_of-Keep, holds-Tag, step_of-Move, step_of-Keep, holds-Tag)
+both_taken = rw (step_of-Keep, holds-Tag, step_of-Keep, holds-Has, step_of-Move, step_of-Keep, holds-Tag)
 
 nothing_left : settled never pair_filters (codes "/") pair ≡ tree_of empty
 unfolding elements standing
-nothing_left = rw (step_of-Keep, holds-Tag, step_of-Keep, holds-Has, step_of-Move, step_of-Keep, holds-Tag, step_of-Keep, holds-Tag, step_of-Move, step_of-Keep, holds-Tag)
+nothing_left = rw (step_of-Keep, holds-Tag, step_of-Keep, holds-Has, step_of-Move, step_of-Keep, holds-Tag)
 
--- <div><div><i></i><div></div></div></div>, where `div:empty` is removed and `i` hidden
+-- <div><div></div></div>, where `div:empty` is removed and `div` hidden
 abbrev nested : Tree
 nested =
-    tree_of (node 1 (element (codes "div") []) (node 2 (element (codes "div") []) (node 3 (element (codes "div") []) empty empty) empty) empty)
+    tree_of (node 1 (element (codes "div") []) (node 2 (element (codes "div") []) empty empty) empty)
 
 abbrev empty_filters : List Filter
 empty_filters = filter_of 1 Remove ((Keep (Tag (codes "div")) ∷ Keep Empty ∷ []) ∷ []) ∷ filter_of 2 Hide ((Keep (Tag (codes "div")) ∷ []) ∷ []) ∷ []
 
 -- a round judges the tree before it alone, so the innermost goes first
-innermost_removed : removed never empty_filters (codes "/") nested ≡ 3 ∷ []
+innermost_removed : removed never empty_filters (codes "/") nested ≡ 2 ∷ []
 unfolding elements standing
 innermost_removed = rw (step_of-Keep, holds-Tag, step_of-Keep, holds-Empty)
 
-three_rounds : taken never empty_filters (codes "/") nested
-    ≡ taken_row 1 3 (codes "div") (0 ∷ []) ∷ taken_row 2 2 (codes "div") (0 ∷ []) ∷ taken_row 3 1 (codes "div") (0 ∷ []) ∷ []
+two_rounds : taken never empty_filters (codes "/") nested
+    ≡ taken_row 1 2 (codes "div") (0 ∷ []) ∷ taken_row 2 1 (codes "div") (0 ∷ []) ∷ []
 unfolding elements standing
-three_rounds = rw (step_of-Keep, holds-Tag, step_of-Keep, holds-Empty, step_of-Keep, holds-Tag, step_of-Keep, holds-Empty, step_of-Keep, holds-Tag, step_of-Keep, holds-Empty)
+two_rounds = rw (step_of-Keep, holds-Tag, step_of-Keep, holds-Empty, step_of-Keep, holds-Tag, step_of-Keep, holds-Empty)
 
 -- a filter that removes hides nothing
-hidden_before : hidden never empty_filters (codes "/") nested ≡ (1, 1 ∷ []) ∷ (2, 1 ∷ []) ∷ (3, 1 ∷ []) ∷ []
+hidden_before : hidden never empty_filters (codes "/") nested ≡ (1, 1 ∷ []) ∷ (2, 1 ∷ []) ∷ []
 unfolding elements standing
 hidden_before = rw (step_of-Keep, holds-Tag)
 

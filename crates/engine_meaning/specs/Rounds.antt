@@ -1,6 +1,6 @@
 -- What the filters that remove take out of a tree. A round takes all that they select out at once; rounds follow each other
 -- until one takes nothing.
-use Rattle.std.specs.Prelude.{ℕ, zero, suc, Bool, not, List, [], ◌++◌, length, map, filter}
+use Rattle.std.specs.Prelude.{ℕ, zero, suc, Bool, not, List, [], ◌∷◌, ◌++◌, length, map, filter}
 use Rattle.std.specs.List.{list_any}
 use Rattle.selector_tree.specs.declared.filter.Action.TheVariants.{Remove}
 use Rattle.selector_tree.specs.declared.filter.Filter.{Filter}
@@ -8,9 +8,14 @@ use Rattle.selector_tree.specs.declared.filter.Taken.{Taken}
 use Rattle.page_tree.specs.Forest.{Tree}
 use Rattle.page_tree.specs.Standings.{all, above, name}
 use Rattle.page_tree.specs.Directions.{is_in}
-use Rattle.page_tree.specs.Edits.{pruned}
+use Rattle.page_tree.specs.Edits.{pruned, detached}
 use Rattle.selector_meaning.specs.Texts.{Bytes}
 use Rattle.engine_meaning.specs.Hidden.{acted_on}
+
+-- the tree without some nodes, taken out one after another with all below them
+abbrev pub without_each : Tree → List ℕ → Tree
+without_each t [] = t
+without_each t (n ∷ ns) = without_each (detached n t) ns
 
 module _ (found : Bytes → ℕ → Bytes → Bool) (filters : List Filter) (path : Bytes) (t : Tree) where
   -- each element that some filter removes, in document order, with the places of all that do

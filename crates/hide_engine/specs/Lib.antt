@@ -1,1 +1,3 @@
 pub mod Exact
+pub mod Asking
+pub mod Chosen

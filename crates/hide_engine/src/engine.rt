@@ -1,4 +1,4 @@
-ghost use Rattle.std.specs.Prelude.{◌≡◌, ◌+◌, ◌≤◌, map, IfOk};
+ghost use Rattle.std.specs.Prelude.{◌≡◌, ◌+◌, ◌≤◌, map, IfOk, IsErr};
 ghost use Rattle.cos_patterns.specs.Found.{pattern_found};
 ghost use Rattle.engine_meaning.specs.Filters.{AreAskable};
 ghost use Rattle.engine_meaning.specs.Hidden.{pair_of};
@@ -7,7 +7,9 @@ ghost use Rattle.mutation_script.specs.Changes.{change, outcome_of};
 ghost use Rattle.mutation_script.specs.Inserted.{inserted};
 ghost use Rattle.hide_engine.specs.Exact.{AreExact};
 
+use crate::asking::{Pending, retest};
 use crate::filter_set::FilterSet;
+use crate::rows::hidden_rows;
 use cos_outside::Steps;
 use cos_patterns::PatternTable;
 use dom_arena::Dom;
@@ -55,7 +57,15 @@ impl Engine {
         requires { AreAskable table.patterns active }
         ensures { IfOk result (λ engine. engine ≡ record { page = page; filters = active }) }
     {
-        Err(AllocError)
+        let filters = FilterSet { table, active };
+        let mut pending = Pending::new();
+        pending.note();
+        let marks = retest(alloc, &page, &filters, &pending, Marks::new(alloc), checks, parts)?;
+        Ok(Engine {
+            page,
+            filters,
+            marks,
+        })
     }
 
     /// Makes the change that a mutation asks for, or answers its first refusal, after which the engine stands for the same
@@ -70,8 +80,27 @@ impl Engine {
         requires { self.page.tree.next + inserted mutation ≤ 4294967295 }
         ensures engine { IfOk result (λ done. done.0 ≡ mutated mutation self) }
         ensures outcome { IfOk result (λ done. done.1 ≡ outcome_of (change mutation self.page)) }
+        ensures refused { IsErr (change mutation self.page) → checks.new ≡ checks.old }
     {
-        Err(AllocError)
+        let Engine {
+            mut page,
+            filters,
+            marks,
+        } = self;
+        let mut pending = Pending::new();
+        let outcome = page.apply(alloc, mutation)?;
+        if let Outcome::Done = outcome {
+            pending.note();
+        }
+        let marks = retest(alloc, &page, &filters, &pending, marks, checks, parts)?;
+        Ok((
+            Engine {
+                page,
+                filters,
+                marks,
+            },
+            outcome,
+        ))
     }
 
     /// Takes all elements that some filter removes out of the page, and answers the outermost of them, as taken in round 1.
@@ -120,6 +149,6 @@ impl Engine {
     pub fn hidden(&self, alloc: Global) -> Result<Rows, AllocError>
         ensures { IfOk result (λ rows. map pair_of rows ≡ hidden_of pattern_found self.now) }
     {
-        Err(AllocError)
+        hidden_rows(alloc, &self.page, &self.filters.active, &self.marks)
     }
 }
