@@ -3,7 +3,7 @@ use Rattle.std.proofs.Common.{◌≡◌, ℕ, suc, ◌+◌, ◌<◌, ◌≤◌, 
 use Rattle.std.proofs.lemmas.Bool.{or_cases, eqb-true}
 use Rattle.std.proofs.lemmas.List.{length-append, length-map, map-append}
 use Rattle.std.proofs.lemmas.List.Folds.{list_any-append}
-use Rattle.page_tree.specs.Forest.{document, element, text, comment, Forest, empty, node, Tree}
+use Rattle.page_tree.specs.Forest.{document, element, text, comment, Forest, empty, node, Tree, size}
 use Rattle.page_tree.specs.Standings.{Sibling, Standing, siblings_of, standings, elements, all}
 use Rattle.page_tree.specs.Directions.{is_in}
 use Rattle.page_tree.specs.Edits.{pruned}
@@ -16,6 +16,20 @@ numbers_at = map (λ e. e.number)
 either : (P : Forest → Type 0) (b : Bool) (f g : Forest) → (b ≡ true → P f) → (b ≡ false → P g) → P (cond b f g)
 either P true f g goes stays = goes refl
 either P false f g goes stays = stays refl
+
+-- no more elements than nodes
+elements_few : (f : Forest) (ups : List ℕ) (before : List Sibling) → length (standings ups before f) ≤ size f
+elements_few empty ups before = omega arith
+elements_few (node n document kids later) ups before = omega (arith, elements_few later ups before)
+elements_few (node n (element called given) kids later) ups before =
+    let here : Sibling = record { number = n; name = called } in
+    omega (arith, elements_few kids (n ∷ ups) [], elements_few later ups (here ∷ before), length-append (standings (n ∷ ups) [] kids) (standings ups (here ∷ before) later))
+elements_few (node n (text bytes) kids later) ups before = omega (arith, elements_few later ups before)
+elements_few (node n (comment bytes) kids later) ups before = omega (arith, elements_few later ups before)
+
+pub all_few : (t : Tree) → length (all t) ≤ size t.nodes
+unfolding elements
+all_few t = omega (arith, elements_few t.nodes [] [], length-map (standings [] [] t.nodes) (λ (e : Standing). e.number))
 
 module _ (gone : ℕ → Bool) where
   -- so many elements at most are left, whatever stands around

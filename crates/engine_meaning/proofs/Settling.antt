@@ -65,6 +65,14 @@ module _ (found : Bytes → ℕ → Bytes → Bool) (filters : List Filter) (pat
       ap (λ (rows : List (ℕ × List ℕ)). map (taken_row found filters path t number) (filter (λ row. is_outermost found filters path t row.0) rows))
       (rows_none (removed_rows found filters path t) none)
 
+  -- a round that takes a row removes some element
+  pub some_removed : (t : Tree) (number : ℕ) → (taken_in found filters path t number ≡ [] → ⊥) → (x : ℕ) × (is_in (removed found filters path t) x ≡ true)
+  some_removed t number some =
+      elim (first_of (removed found filters path t)) [
+        | inl none ↦ absurd (some (none_taken t number none))
+        | inr there ↦ there
+      ]
+
   -- a round that takes no row removes nothing: else the outermost of what is removed would be a row
   pub none_removed : (t : Tree) (number : ℕ) → IsTree t → taken_in found filters path t number ≡ [] → removed found filters path t ≡ []
   none_removed t number tree none =

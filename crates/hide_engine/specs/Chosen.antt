@@ -7,7 +7,7 @@ use Rattle.engine_meaning.specs.Filters.{has_action}
 
 -- the filter at a place has this action; none past the last has one
 abbrev pub acts_at : List Filter → Action → ℕ → Bool
-acts_at filters action f = option_map_or (has_action action) false (slice_get filters f)
+acts_at filters action f = option_map_or (has_action action) (slice_get filters f) false
 
 -- the places of the filters that have this action
 abbrev pub chosen : List Filter → Action → List ℕ → List ℕ

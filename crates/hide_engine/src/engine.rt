@@ -1,4 +1,4 @@
-ghost use Rattle.std.specs.Prelude.{◌≡◌, ◌+◌, ◌≤◌, map, IfOk, IsErr};
+ghost use Rattle.std.specs.Prelude.{◌≡◌, ◌+◌, ◌≤◌, [], map, IfOk, IsErr};
 ghost use Rattle.cos_patterns.specs.Found.{pattern_found};
 ghost use Rattle.engine_meaning.specs.Filters.{AreAskable};
 ghost use Rattle.engine_meaning.specs.Hidden.{pair_of};
@@ -9,6 +9,7 @@ ghost use Rattle.hide_engine.specs.Exact.{AreExact};
 
 use crate::asking::{Pending, retest};
 use crate::filter_set::FilterSet;
+use crate::removing::{take_out_all, taken_rows};
 use crate::rows::hidden_rows;
 use cos_outside::Steps;
 use cos_patterns::PatternTable;
@@ -31,9 +32,14 @@ pub struct Engine {
 }
 
 impl Model for Engine {
+    ghost use Rattle.std.specs.Coded.{codes};
+    ghost use Rattle.page_tree.specs.ForestCode.{forest_code};
+    ghost use Rattle.selector_tree.specs.contracts.selector.Step as step;
     ghost use Rattle.engine_meaning.specs.States.{State};
 
     ghost Value = { State };
+
+    ghost coded = { Prim.hlevel (codes, forest_code, step.the_row.coded) };
 
     ghost use Rattle.hide_engine.specs.Exact.{IsKept};
 
@@ -89,8 +95,9 @@ impl Engine {
         } = self;
         let mut pending = Pending::new();
         let outcome = page.apply(alloc, mutation)?;
-        if let Outcome::Done = outcome {
-            pending.note();
+        match outcome {
+            Outcome::Done => pending.note(),
+            Outcome::Refused(_) => {}
         }
         let marks = retest(alloc, &page, &filters, &pending, marks, checks, parts)?;
         Ok((
@@ -113,8 +120,25 @@ impl Engine {
     ) -> Result<(Engine, TakenList), AllocError>
         ensures engine { IfOk result (λ done. done.0 ≡ rounded pattern_found self) }
         ensures taken { IfOk result (λ done. done.1 ≡ round_of pattern_found self) }
+        ensures quiet { round_of pattern_found self ≡ [] → checks.new ≡ checks.old }
     {
-        Err(AllocError)
+        let rows = taken_rows(alloc, &self.page, &self.filters.active, &self.marks)?;
+        let Engine {
+            mut page,
+            filters,
+            marks,
+        } = self;
+        page.tree.is_tree();
+        let pending = take_out_all(&mut page, rows.as_slice());
+        let marks = retest(alloc, &page, &filters, &pending, marks, checks, parts)?;
+        Ok((
+            Engine {
+                page,
+                filters,
+                marks,
+            },
+            rows,
+        ))
     }
 
     /// The nodes of the page. It takes no memory.

@@ -8,7 +8,7 @@
 mod asking;
 mod engine;
 mod filter_set;
-//mod removing;
+mod removing;
 mod rows;
 
 pub use engine::Engine;
