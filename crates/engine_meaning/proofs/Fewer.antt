@@ -47,9 +47,13 @@ module _ (gone : ℕ → Bool) where
       either (AtMost ups before (length (standings ups' before' (node n (element called given) kids later)))) (gone n) (pruned gone later)
       (node n (element called given) (pruned gone kids) (pruned gone later))
       (λ _. omega (arith, no_more later ups ups' before (here ∷ before'), length-append (standings (n ∷ ups') [] kids) (standings ups' (here ∷ before') later)))
-      (λ _. omega (arith, no_more kids (n ∷ ups) (n ∷ ups') [] [], no_more later ups ups' (here ∷ before) (here ∷ before'),
+      (λ _. omega (
+        arith,
+        no_more kids (n ∷ ups) (n ∷ ups') [] [],
+        no_more later ups ups' (here ∷ before) (here ∷ before'),
         length-append (standings (n ∷ ups') [] kids) (standings ups' (here ∷ before') later),
-        length-append (standings (n ∷ ups) [] (pruned gone kids)) (standings ups (here ∷ before) (pruned gone later))))
+        length-append (standings (n ∷ ups) [] (pruned gone kids)) (standings ups (here ∷ before) (pruned gone later)),
+      ))
   no_more (node n (text bytes) kids later) ups ups' before before' =
       let rest = no_more later ups ups' before before' in
       either (AtMost ups before (length (standings ups' before' later))) (gone n) (pruned gone later) (node n (text bytes) (pruned gone kids) (pruned gone later))
@@ -92,13 +96,13 @@ module _ (gone : ℕ → Bool) where
         (node n (element called given) (pruned gone kids) (pruned gone later))
         (λ _. omega (arith, no_more later ups ups' before (here ∷ before'), length-append inside behind))
         (
-          λ stays. elim (place n inside behind there) [
-            | inl same ↦ absurd (let yes_and_no : true ≡ false = sym goes ∙ sym (ap gone same) ∙ stays in cc)
-            | inr other ↦ elim other [
-              | inl below ↦ omega (arith, fewer kids (n ∷ ups) (n ∷ ups') [] [] below, no_more later ups ups' (here ∷ before) (here ∷ before'), length-append inside behind, length-append left right)
-              | inr after ↦ omega (arith, no_more kids (n ∷ ups) (n ∷ ups') [] [], fewer later ups ups' (here ∷ before) (here ∷ before') after, length-append inside behind, length-append left right)
-            ]
+        λ stays. elim (place n inside behind there) [
+          | inl same ↦ absurd (let yes_and_no : true ≡ false = sym goes ∙ sym (ap gone same) ∙ stays in cc)
+          | inr other ↦ elim other [
+            | inl below ↦ omega (arith, fewer kids (n ∷ ups) (n ∷ ups') [] [] below, no_more later ups ups' (here ∷ before) (here ∷ before'), length-append inside behind, length-append left right)
+            | inr after ↦ omega (arith, no_more kids (n ∷ ups) (n ∷ ups') [] [], fewer later ups ups' (here ∷ before) (here ∷ before') after, length-append inside behind, length-append left right)
           ]
+        ]
         )
     fewer (node n (text bytes) kids later) ups ups' before before' there =
         let rest = fewer later ups ups' before before' there in
@@ -113,5 +117,9 @@ module _ (gone : ℕ → Bool) where
     pub fewer_elements : (t : Tree) → is_in (all t) x ≡ true → length (all (record { nodes = pruned gone t.nodes; next = t.next })) < length (all t)
     unfolding elements
     fewer_elements t there =
-        omega (arith, fewer t.nodes [] [] [] [] there,
-          length-map (standings [] [] t.nodes) (λ (e : Standing). e.number), length-map (standings [] [] (pruned gone t.nodes)) (λ (e : Standing). e.number))
+        omega (
+          arith,
+          fewer t.nodes [] [] [] [] there,
+          length-map (standings [] [] t.nodes) (λ (e : Standing). e.number),
+          length-map (standings [] [] (pruned gone t.nodes)) (λ (e : Standing). e.number),
+        )

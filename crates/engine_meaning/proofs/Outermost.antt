@@ -130,11 +130,11 @@ module _ (found : Bytes → ℕ → Bytes → Bool) (filters : List Filter) (pat
   each-round number tree =
       ap₂ (λ (f : Forest) (n : ℕ). record { nodes = f; next = n })
       (
-        each-pruned ns t (once-tree t tree)
-        ∙ pruned-alike (is_in ns) (is_outer t gone)
-        (λ x. ap (λ (l : List ℕ). is_in l x) (nodes_of number outermost (removed_rows found filters path t)) ∙ is_in-filter outermost (removed found filters path t) x)
-        t.nodes
-        ∙ outer_pruned t gone tree
+      each-pruned ns t (once-tree t tree)
+      ∙ pruned-alike (is_in ns) (is_outer t gone)
+      (λ x. ap (λ (l : List ℕ). is_in l x) (nodes_of number outermost (removed_rows found filters path t)) ∙ is_in-filter outermost (removed found filters path t) x)
+      t.nodes
+      ∙ outer_pruned t gone tree
       ) (each-next ns t)
     where
       gone : ℕ → Bool

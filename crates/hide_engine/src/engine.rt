@@ -66,7 +66,15 @@ impl Engine {
         let filters = FilterSet { table, active };
         let mut pending = Pending::new();
         pending.note();
-        let marks = retest(alloc, &page, &filters, &pending, Marks::new(alloc), checks, parts)?;
+        let marks = retest(
+            alloc,
+            &page,
+            &filters,
+            &pending,
+            Marks::new(alloc),
+            checks,
+            parts,
+        )?;
         Ok(Engine {
             page,
             filters,

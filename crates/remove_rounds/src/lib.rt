@@ -3,6 +3,7 @@
 //! `settle` is the whole of it. That rounds end, and that what they take doesn't depend on how they are made, is what
 //! `engine_meaning` says of them.
 #![tactic(auto)]
+
 ghost use Rattle.std.specs.Prelude.{◌≡◌, [], ◌++◌, map, IfOk, OnOk};
 ghost use Rattle.cos_patterns.specs.Found.{pattern_found};
 ghost use Rattle.engine_meaning.specs.Rounds.{removed};

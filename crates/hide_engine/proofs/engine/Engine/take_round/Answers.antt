@@ -23,8 +23,8 @@ returns-clause-engine g c =
     let s : State = record { page = c.self.inside.page; filters = c.self.inside.filters.active } in
     ap (λ (p : PageState). record { page = p; filters = s.filters })
     (
-      c.take_out_all-pending.ensures.page
-      ∙ ap (λ (rows : List Taken). record s.page { tree = without_each s.page.tree (map (λ row. row.node) rows) }) (c.as_slice.ensures ∙ c.in_ok-rows.ensures)
-      ∙ ap (λ (t : Tree). record s.page { tree = t }) (each-round pattern_found s.filters s.page.path s.page.tree 1 c.is_tree.ensures)
+    c.take_out_all-pending.ensures.page
+    ∙ ap (λ (rows : List Taken). record s.page { tree = without_each s.page.tree (map (λ row. row.node) rows) }) (c.as_slice.ensures ∙ c.in_ok-rows.ensures)
+    ∙ ap (λ (t : Tree). record s.page { tree = t }) (each-round pattern_found s.filters s.page.path s.page.tree 1 c.is_tree.ensures)
     )
     ∙ ap (rounded pattern_found) c.self.view_is
