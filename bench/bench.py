@@ -228,9 +228,9 @@ def unordered_attributes_page(size):
 
 
 def end_tags_page(length, size):
-    """Five hundred open elements whose name has this length, and end tags of another name as long."""
-    first = f"<{'b' * length}>" * 500
-    fill = f"</{'b' * (length - 1)}c>"
+    """Five hundred open elements, each of a name of its own of this length, and end tags of another name as long."""
+    first = "".join(f"<{'b' * (length - 3)}{i:03}>" for i in range(500))
+    fill = f"</{'b' * (length - 3)}999>"
     yield first
     for _ in range((size - len(first)) // len(fill)):
         yield fill

@@ -18,7 +18,7 @@ pub fn is_observed(sensors: &[Sensor], change: &Change) -> bool
 }
 
 // Whether what is observed can be another one after a change.
-fn observes(observed: &Observes, change: &Change) -> bool
+pub(crate) fn observes(observed: &Observes, change: &Change) -> bool
     ensures { result ≡ observes observed.now change.now }
 {
     match observed {

@@ -1,5 +1,5 @@
 -- The slots with a new node linked in stand for the tree with that node.
-use Rattle.std.proofs.Common.{◌≡◌, ℕ, ◌+◌, ◌<◌, ◌≤◌, List, [], ◌∷◌, ◌++◌, Option, Some, None, true, length, refl, sym, ◌∙◌, ap, subst, inl, inr, arith}
+use Rattle.std.proofs.Common.{◌≡◌, ℕ, ◌+◌, ◌<◌, ◌≤◌, List, [], ◌∷◌, ◌++◌, Some, None, true, length, refl, sym, ◌∙◌, ap, subst, inl, inr, arith}
 use Rattle.std.proofs.Math.ListN.{replicate}
 use Rattle.page_tree.specs.Forest.{Content, Forest, empty, node, Tree, rooted, same, count, size, depth_in, head, tops, find, children}
 use Rattle.page_tree.specs.Edits.{insert_at, with_children, added}
@@ -11,7 +11,6 @@ use Rattle.dom_arena.specs.Slots.{free, slot_at, IsUsed, last_behind, cell, put}
 use Rattle.dom_arena.specs.Linked.{Stands, IsArena, tree_of, forest_of, from_place, before_place}
 use Rattle.page_tree.specs.Refusals.{limits_refused}
 use Rattle.dom_arena.proofs.Links.{forest_of-linked, stands_used}
-use Rattle.dom_arena.proofs.Depths.{depth_known}
 use Rattle.dom_arena.proofs.Limits.{limits_allow}
 use Rattle.dom_arena.proofs.Placed.{StandsBeside, Stands-placed_by, total as all_counted, size_nodes as all_sized}
 use Rattle.dom_arena.proofs.Writes.{length-placed, slot_at-free, length-free, Stands-free}
@@ -70,11 +69,11 @@ module _ (slots : List Slot) (f : Forest) (stands : Stands slots f) (n : ℕ) (n
 pub added_arena : (slots : List Slot) (nodes p i b a : ℕ) (c : Content) (made : List Slot) → IsArena slots nodes
     → IsUsed slots p → may_hold (slot_at slots p).payload ≡ true → MayHave c empty → IsOrdinary c
     → i ≤ length (tops (children (find p (rooted (tree_of slots).nodes))))
-    → ((d : Content) → limits_refused (depth_in p 0 (rooted (tree_of slots).nodes)) nodes ((0, d) ∷ []) ≡ None)
+    → (e : ℕ) → depth_in p 0 (rooted (tree_of slots).nodes) ≡ Some e → ((d : Content) → limits_refused (Some e) nodes ((0, d) ∷ []) ≡ None)
     → b ≡ before_place 0 i (children (find p (rooted (tree_of slots).nodes))) → a ≡ head (from_place i (children (find p (rooted (tree_of slots).nodes))))
     → made ≡ put (length slots) p b a c (slots ++ replicate 1 free)
     → IsArena made (nodes + 1) × (tree_of made ≡ added p i (node (length slots) c empty empty) (tree_of slots))
-added_arena slots nodes p i b a c made arena used holds childless ordinary le allowed eb ea em =
+added_arena slots nodes p i b a c made arena used holds childless ordinary le e deep allowed eb ea em =
     let f : Forest = (tree_of slots).nodes in
     let n : ℕ = length slots in
     let more : List Slot = slots ++ replicate 1 free in
@@ -86,13 +85,12 @@ added_arena slots nodes p i b a c made arena used holds childless ordinary le al
     let same_p : slot_at more p ≡ slot_at slots p = slot_at-free slots 1 p in
     let used' : IsUsed more p = λ e. used (ap (λ (x : Slot). x.payload) (sym same_p) ∙ e) in
     let holds' : may_hold (slot_at more p).payload ≡ true = ap (λ (x : Slot). may_hold x.payload) same_p ∙ holds in
-    let known : (e : ℕ) × (depth_in p 0 (rooted f) ≡ Some e) = depth_known more f stands p used' in
-    let limits : (known.0 < 512) × (nodes < 1000000) = limits_allow known.0 nodes c (ap (λ (o : Option ℕ). limits_refused o nodes ((0, c) ∷ [])) (sym known.1) ∙ allowed c) in
+    let limits : (e < 512) × (nodes < 1000000) = limits_allow e nodes c (allowed c) in
     let few : size f < 1000000 = omega (arith, arena.counted, limits.1) in
-    let nodes' : Forest = new_nodes more f stands n n_in unused room p i c used' holds' childless ordinary le known.0 known.1 limits.0 few in
-    let grown : size nodes' ≡ size f + 1 = size_nodes more f stands n n_in unused room p i c used' holds' childless ordinary le known.0 known.1 limits.0 few in
+    let nodes' : Forest = new_nodes more f stands n n_in unused room p i c used' holds' childless ordinary le e deep limits.0 few in
+    let grown : size nodes' ≡ size f + 1 = size_nodes more f stands n n_in unused room p i c used' holds' childless ordinary le e deep limits.0 few in
     let after : Stands made nodes' =
-    subst (λ (l : List Slot). Stands l nodes') (sym em) (Stands-put more f stands n n_in unused room p i c used' holds' childless ordinary le known.0 known.1 limits.0 few b a eb ea) in
+    subst (λ (l : List Slot). Stands l nodes') (sym em) (Stands-put more f stands n n_in unused room p i c used' holds' childless ordinary le e deep limits.0 few b a eb ea) in
     let same_tree : tree_of made ≡ added p i (node (length slots) c empty empty) (tree_of slots) =
     tree_of-stands made nodes' after ∙ ap (λ (k : ℕ). record { nodes = nodes'; next = k }) (ap length em ∙ length-placed n p b a (cell p empty a b c) more ∙ long) in (
       record {

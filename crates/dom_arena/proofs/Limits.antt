@@ -1,10 +1,11 @@
 -- The limits that the nodes of a fragment keep, one after the other.
-use Rattle.std.proofs.Common.{◌≡◌, ℕ, suc, ◌+◌, ◌-◌, ◌<◌, ◌≤◌, List, [], ◌∷◌, Option, Some, None, refl, sym, ◌∙◌, ap, arith}
+use Rattle.std.proofs.Common.{◌≡◌, ℕ, suc, ◌+◌, ◌-◌, ◌<◌, ◌≤◌, List, [], ◌∷◌, Option, Some, None, refl, sym, ◌∙◌, ap, subst, arith}
 use Rattle.std.proofs.lemmas.Bool.{le-ltb, lt-ltb, lt-leb, le-leb}
 use Rattle.std.specs.Prelude.{option_map}
-use Rattle.page_tree.specs.Forest.{Content}
+use Rattle.std.specs.Option.{option_or}
+use Rattle.page_tree.specs.Forest.{Content, Tree, rooted, size, depth_in}
 use Rattle.page_tree.specs.Fragments.{Limit, limit_passed}
-use Rattle.page_tree.specs.Refusals.{past_limit, limits_refused}
+use Rattle.page_tree.specs.Refusals.{Refusal, past_limit, place_refused, limits_refused, graft_refused}
 use Rattle.page_tree.proofs.Fragments.{limits_step, limits_kept}
 use Rattle.dom_arena.specs.declared.refusals.DomError.TheVariants.{TooDeep, TooManyNodes}
 use Rattle.dom_arena.specs.Refusals.{error_of}
@@ -42,3 +43,12 @@ pub limits_allow : (depth nodes : ℕ) (c : Content) → limits_refused (Some de
 limits_allow depth nodes c h =
     let kept = limits_kept depth nodes (0, c) [] (none_passed depth nodes ((0, c) ∷ []) h) in
     (omega (arith, kept.0), kept.1)
+
+-- where the place of a node is there, the limits alone decide, also by what a tree is seen as
+pub limits_decide : (u t : Tree) → u ≡ t → (p : ℕ) (place : Tree → ℕ) (depth nodes : ℕ) (c : Content) → place_refused p (place u) u ≡ None → depth_in p 0 (rooted u.nodes) ≡ Some depth
+    → nodes ≡ size u.nodes → graft_refused p (place t) ((0, c) ∷ []) t ≡ limits_refused (Some depth) nodes ((0, c) ∷ [])
+limits_decide u t view p place depth nodes c there deep counted =
+    let part : List (ℕ × Content) = (0, c) ∷ [] in
+    subst (λ (v : Tree). graft_refused p (place v) part v ≡ limits_refused (Some depth) nodes part) view
+    (ap (λ (o : Option Refusal). option_or o (limits_refused (depth_in p 0 (rooted u.nodes)) (size u.nodes) part)) there
+    ∙ ap (λ (o : Option ℕ). limits_refused o (size u.nodes) part) deep ∙ ap (λ (n : ℕ). limits_refused (Some depth) n part) (sym counted))

@@ -1,1 +1,5 @@
 pub mod KeyLaws
+pub mod Carrying
+pub mod Written
+pub mod WordCuts
+pub mod Entering

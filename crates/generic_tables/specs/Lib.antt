@@ -1,1 +1,6 @@
 pub mod Keys
+pub mod Carried
+pub mod KeysLeft
+pub mod Filed
+pub mod Tables
+pub mod Example

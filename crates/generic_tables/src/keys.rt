@@ -1,7 +1,9 @@
 ghost use Rattle.std.specs.Prelude.{◌≡◌, map, IfOk};
 ghost use Rattle.std.specs.Option.{option_copied};
+ghost use Rattle.generic_tables.specs.Carried.{key_in};
 ghost use Rattle.generic_tables.specs.Keys.{key_of_chain, kept_test, first_value, value_in, value_of, last_tests};
 
+use crate::carried::KeyRef;
 use listed::{Listed, Text};
 use selector_tree::{Chain, Filter, Step, Test};
 use std::alloc::{AllocError, Global};
@@ -17,6 +19,20 @@ pub enum Key {
     Name(Text),
     /// Nothing; every element carries this key.
     None,
+}
+
+impl Key {
+    /// The key, lent.
+    pub fn lent(&self) -> KeyRef<'_>
+        ensures { key_in result ≡ self.now }
+    {
+        match self {
+            Key::Class(class) => KeyRef::Class(class.as_str()),
+            Key::Id(id) => KeyRef::Id(id.as_str()),
+            Key::Name(name) => KeyRef::Name(name.as_str()),
+            Key::None => KeyRef::None,
+        }
+    }
 }
 
 /// The keys of a filter, one for each chain.

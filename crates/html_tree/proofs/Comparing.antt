@@ -7,7 +7,7 @@ use Rattle.std.specs.declared.cmp.Ordering.TheVariants.{Less, Equal, Greater}
 use Rattle.std.specs.Ordering.{nat_cmp, ordering_then}
 use Rattle.std.specs.Prelude.{slice_index}
 use Rattle.std.specs.Str.{str_to_ascii_lowercase}
-use Rattle.html_tree.proofs.Sums.{lower-long}
+use Rattle.html_tree.proofs.Counts.{lower-long}
 
 cmp_next : (i : ℕ) (a b : List ℕ) → i < length a → i < length b
     → slice_cmp nat_cmp (drop i (str_to_ascii_lowercase a)) (drop i (str_to_ascii_lowercase b))

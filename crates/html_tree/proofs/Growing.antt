@@ -1,7 +1,7 @@
 -- The tree of a page while its nodes are put in: where the next node goes, and when it is refused.
-use Rattle.std.proofs.Common.{◌≡◌, ℕ, zero, suc, ◌+◌, ◌-◌, ◌<◌, ◌≤◌, ⊎_elim, Bool, true, false, cond, not, List, [], ◌∷◌, ◌++◌, length, take, refl, arith, ap, sym, ◌∙◌, subst, map, Option, Some, None, option_map, nat_lt, nat_le, zero-add}
+use Rattle.std.proofs.Common.{◌≡◌, ℕ, zero, suc, ◌+◌, ◌-◌, ◌≤◌, Bool, true, false, List, [], ◌∷◌, ◌++◌, length, take, refl, arith, ap, sym, ◌∙◌, subst, map, Option, Some, None, option_map, nat_lt, nat_le, zero-add}
 use Rattle.std.proofs.lemmas.List.{length-map}
-use Rattle.std.proofs.lemmas.Bool.{eq-eqb, lt-ltb, le-ltb, le-leb, lt-leb, cases_lt}
+use Rattle.std.proofs.lemmas.Bool.{eq-eqb, le-ltb}
 use Rattle.std.specs.Prelude.{◌==◌, slice_index, if◌then◌else◌}
 use Rattle.std.specs.Option.{option_or}
 use Rattle.page_tree.specs.Forest.{Content, document, element, text, comment, Forest, empty, node, Tree, rooted, count, size, tops, find, children, depth_in, or_some}
@@ -141,14 +141,18 @@ limits_agree d n c =
     let same : d + suc 0 ≡ 0 + suc d = omega arith in
     ap (λ (k : ℕ). option_map past_limit (if nat_lt DEPTH_LIMIT k then Some TooDeep else (if nat_le NODE_LIMIT n then Some TooManyNodes else None))) same
 
+-- the innermost element stands as deep as there are elements
+pub innermost_depth : (under : List OpenElement) (t : Tree) → OnSpine under t.nodes → ((k : ℕ) → count k (rooted t.nodes) ≤ 1)
+    → depth_in (innermost 0 under) 0 (rooted t.nodes) ≡ Some (length under)
+innermost_depth under t s once = last_depth 0 0 the_document under (rooted t.nodes) (refl, s) (once (innermost 0 under)) ∙ ap Some (zero-add (length under))
+
 -- a node below the innermost element is refused only by a limit that it passes
 pub append_is : (under : List OpenElement) (t : Tree) (c : Content) → OnSpine under t.nodes → AllHold under t.nodes → ((k : ℕ) → count k (rooted t.nodes) ≤ 1)
     → graft_refused (innermost 0 under) (children_of (innermost 0 under) t) ((0, c) ∷ []) t ≡ option_map past_limit (next_limit 0 (size t.nodes) (length under))
 append_is under t c s a once =
     let last = innermost 0 under in
     let accepted : place_refused last (children_of last t) t ≡ None = last_accepts last 0 the_document under (rooted t.nodes) (refl, s) (refl, a) (once last) in
-    let depth : depth_in last 0 (rooted t.nodes) ≡ Some (length under) =
-    last_depth 0 0 the_document under (rooted t.nodes) (refl, s) (once last) ∙ ap Some (zero-add (length under)) in
+    let depth : depth_in last 0 (rooted t.nodes) ≡ Some (length under) = innermost_depth under t s once in
     ap (λ (o : Option Refusal). option_or o (limits_refused (depth_in last 0 (rooted t.nodes)) (size t.nodes) ((0, c) ∷ []))) accepted
     ∙ ap (λ (o : Option ℕ). limits_refused o (size t.nodes) ((0, c) ∷ [])) depth ∙ limits_agree (length under) (size t.nodes) c
 

@@ -3,7 +3,7 @@ use Rattle.std.proofs.Common.{◌≡◌, ℕ, suc, ◌+◌, ◌≤◌, ◌-◌, 
 use Rattle.std.proofs.lemmas.List.{append-nil, map-append, take-map}
 use Rattle.std.specs.Prelude.{slice_index}
 use Rattle.std.specs.Str.{str_to_ascii_lowercase}
-use Rattle.page_tree.specs.Forest.{Content, element, text, comment, Forest, empty, node, Tree, size}
+use Rattle.page_tree.specs.Forest.{Content, element, text, comment, Forest, empty, node, Tree, rooted, size, depth_in}
 use Rattle.page_tree.specs.Edits.{appended, children_of}
 use Rattle.page_tree.specs.Trees.{IsOrdinary}
 use Rattle.page_tree.specs.Fragments.{Limit, TooDeep, TooManyNodes, hung, limit_passed}
@@ -20,9 +20,9 @@ use Rattle.html_tree.specs.Chain.{AreOpen, Leaves, element_names, element_number
 use Rattle.html_tree.specs.Limits.{next_limit, page_error, error_of}
 use Rattle.html_tree.proofs.FirstNames.{lower_twice, element_attributes_are}
 use Rattle.html_tree.proofs.Fronts.{rises-take}
-use Rattle.html_tree.proofs.Spine.{added_last, size-hung}
+use Rattle.html_tree.proofs.Spine.{added_last, size-hung, spine-few}
 use Rattle.html_tree.proofs.Law.{Goes, goes_start, goes-front, goes-opened, goes-leaf}
-use Rattle.html_tree.proofs.Growing.{AllHold, may_hold, hold-front, hold-hung, hold-leaf, append_is, innermost-at}
+use Rattle.html_tree.proofs.Growing.{AllHold, may_hold, hold-front, hold-hung, hold-leaf, append_is, innermost-at, innermost_depth}
 use Rattle.html_tree.proofs.Kept.{pieces, opened_known, nodes_made, nodes_skipped, front_long}
 use Rattle.html_tree.proofs.PassedLimits.{first_within, first_passes, few_nodes}
 
@@ -135,6 +135,13 @@ module _ (names : List (List ℕ)) (numbers : List ℕ) (t : Token) (ts : List T
 
   hold : AllHold under old.nodes
   hold = hold-front count g.elements old.nodes g.hold
+
+  -- its parent stands as deep as there are open elements, which are nodes
+  pub grown_depth : depth_in parent 0 (rooted old.nodes) ≡ Some count
+  grown_depth = ap (λ (q : ℕ). depth_in q 0 (rooted old.nodes)) (sym at) ∙ innermost_depth under old goes.spine goes.once ∙ ap Some long
+
+  pub grown_few : count ≤ NODE_LIMIT
+  grown_few = omega (arith, spine-few under old.nodes goes.spine, long, g.few)
 
   -- the arena refuses the node where it passes a limit
   pub grown_refusal : graft_refused parent (children_of parent old) ((0, c) ∷ []) old ≡ option_map past_limit (next_limit 0 (size old.nodes) count)

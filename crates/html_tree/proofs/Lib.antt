@@ -9,7 +9,7 @@ pub mod Resolving
 pub mod Kept
 pub mod PassedLimits
 pub mod Depths
-pub mod Sums
+pub mod Counts
 pub mod Growing
 pub mod Grown
 pub mod Comparing

@@ -115,6 +115,13 @@ spine-front (suc n) (o ∷ elements) empty s = absurd s
 spine-front (suc n) (o ∷ elements) (node m c kids empty) s = (s.0, spine-front n elements kids s.1)
 spine-front (suc n) (o ∷ elements) (node m c kids (node l d inner later)) s = spine-front (suc n) (o ∷ elements) (node l d inner later) s
 
+-- each of them is a node
+pub spine-few : (elements : List OpenElement) (f : Forest) → OnSpine elements f → length elements ≤ size f
+spine-few [] f s = omega arith
+spine-few (o ∷ elements) empty s = absurd s
+spine-few (o ∷ elements) (node n c kids empty) s = omega (arith, spine-few elements kids s.1)
+spine-few (o ∷ elements) (node n c kids (node m d inner later)) s = omega (arith, spine-few (o ∷ elements) (node m d inner later) s)
+
 pub spine-joined : (o : OpenElement) (c : Content) (f : Forest) → OnSpine (o ∷ []) (joined f (node o.number c empty empty))
 spine-joined o c empty = (refl, tt)
 spine-joined o c (node n d kids empty) = (refl, tt)

@@ -6,6 +6,7 @@ use Rattle.page_tree.specs.Fragments.{TooDeep, TooManyNodes}
 use Rattle.html_meaning.specs.Page.{OpenElement, Opens, Ends, left_by}
 use Rattle.html_tree.specs.declared.references.Base.TheVariants.{Decimal, Hexadecimal}
 use Rattle.html_tree.specs.Chain.{names_of, element_names}
+use Rattle.html_tree.specs.Counts.{times}
 use Rattle.html_tree.specs.Limits.{next_limit}
 use Rattle.html_tree.specs.LaterNames.{as_read, names_in}
 use Rattle.html_tree.specs.Numerals.{is_digit, ends_number}
@@ -31,6 +32,9 @@ end_of_the_item = refl
 
 end_of_another : left_by (Ends (codes "div")) elements ≡ elements
 end_of_another = refl
+
+two_items : times (codes "li") (codes "ul" ∷ codes "li" ∷ codes "p" ∷ codes "li" ∷ []) ≡ 2
+two_items = refl
 
 within_limits : next_limit 510 999999 1 ≡ None
 within_limits = refl

@@ -1,8 +1,8 @@
 pub mod Rising
 pub mod Chain
-pub mod Sums
 pub mod Numerals
 pub mod Spelled
+pub mod Counts
 pub mod LaterNames
 pub mod Limits
 pub mod Example

@@ -1,70 +1,73 @@
 // The elements that are open, by their names, and which of them a tag closes.
 
-ghost use Rattle.std.specs.Prelude.{◌≡◌, ◌≤◌, ◌<◌, ◌+◌, ◌-◌, ◌++◌, ◌∷◌, [], Bool, false, Some, length, slice_get, slice_index, slice_set, take, OnOk};
+ghost use Rattle.std.specs.Prelude.{◌≡◌, ◌≤◌, ◌<◌, ◌+◌, ◌-◌, ◌++◌, ◌∷◌, [], Bool, false, Some, length, slice_get, take, drop, OnOk, OnErr};
 ghost use Rattle.std.specs.List.{list_any};
 ghost use Rattle.std.specs.Str.{bytes_eq};
-ghost use Rattle.html_tree.specs.Sums.{sum_of};
+ghost use Rattle.html_tree.specs.Counts.{count_in, IsCountedAs, AreSameCounts};
 ghost use Rattle.std.specs.Str.{str_to_ascii_lowercase};
 ghost use Rattle.html_meaning.specs.Page.{Opens, Ends};
 ghost use Rattle.html_tree.specs.Chain.{names_of, Leaves};
 
+use crate::spelled::SpelledName;
 use crate::tables::closes;
 use std::alloc::{AllocError, Global};
+use std::collections::BTreeMap;
 use std::marker::Model;
 
-/// How many sums of names are told apart.
-const SUMS: usize = 1024;
+/// How many of the open elements, from the outermost on, an end tag is compared with in any case. The names of those behind
+/// them are counted, so that end tags of nothing open are read fast below very many elements too.
+const OUTER: usize = 32;
 
-/// A sum over the bytes of a name, letter case ignored.
-fn sum_of(name: &str) -> usize
-    ensures value { result ≡ sum_of (str_to_ascii_lowercase name.now) }
-    ensures within { result < SUMS }
+/// How often a name is counted.
+fn count_of<'a>(counts: &BTreeMap<SpelledName<'a>, usize>, name: &'a str) -> usize
+    ensures { result ≡ count_in counts.now (str_to_ascii_lowercase name.now) }
 {
-    let mut sum = 0;
-    for b in name.as_bytes() {
-        sum = (sum * 31 + b.to_ascii_lowercase() as usize) % SUMS;
+    let key = SpelledName { spelled: name };
+    counts.get(&key).copied().unwrap_or(0)
+}
+
+/// Counts a name once more, where it is counted fewer than `most` times. Without memory nothing changes.
+fn count_more<'a>(
+    counts: &mut BTreeMap<SpelledName<'a>, usize>,
+    name: &'a str,
+    most: usize,
+) -> Result<(), AllocError>
+    requires { count_in counts.old (str_to_ascii_lowercase name.now) < most }
+    ensures ok { OnOk result (let lower = str_to_ascii_lowercase name.now in IsCountedAs counts.old counts.new lower (count_in counts.old lower + 1)) }
+    ensures err { OnErr result (AreSameCounts counts.old counts.new) }
+{
+    let count = count_of(counts, name) + 1;
+    counts.insert(SpelledName { spelled: name }, count)?;
+    Ok(())
+}
+
+/// Counts a name once less.
+fn count_less<'a>(counts: &mut BTreeMap<SpelledName<'a>, usize>, name: &'a str)
+    requires { 0 < count_in counts.old (str_to_ascii_lowercase name.now) }
+    ensures { let lower = str_to_ascii_lowercase name.now in IsCountedAs counts.old counts.new lower (count_in counts.old lower - 1) }
+{
+    let count = count_of(counts, name);
+    let key = SpelledName { spelled: name };
+    if count > 1 {
+        // the name is there already, so that this takes no memory
+        let _ = counts.insert(key, count - 1);
+    } else {
+        let _ = counts.remove(&key);
     }
-    sum
-}
-
-/// Counts one more under a sum, for which there are fewer than `most` before.
-fn count_more(counts: &mut [usize; SUMS], sum: usize, most: usize)
-    requires within { sum < SUMS }
-    requires few { slice_index counts.old sum < most }
-    ensures { counts.new ≡ slice_set counts.old sum (slice_index counts.old sum + 1) }
-{
-    counts[sum] += 1;
-}
-
-/// Counts one less under a sum.
-fn count_less(counts: &mut [usize; SUMS], sum: usize)
-    requires within { sum < SUMS }
-    requires some { 0 < slice_index counts.old sum }
-    ensures { counts.new ≡ slice_set counts.old sum (slice_index counts.old sum - 1) }
-{
-    counts[sum] -= 1;
-}
-
-/// Whether some are counted under a sum.
-fn has_some(counts: &[usize; SUMS], sum: usize) -> bool
-    requires { sum < SUMS }
-    ensures { result ≡ false → slice_index counts.now sum ≡ 0 }
-{
-    counts[sum] > 0
 }
 
 /// The names of the elements that are open, from the outermost to the innermost. Contracts see them in lower case.
 #[derive(Drop)]
 pub struct OpenNames<'a> {
     names: Vec<&'a str>,
-    // how many of the names have each sum, so that an end tag of nothing open needn't be compared with them
-    counts: [usize; SUMS],
+    // how often each name stands behind the first `OUTER`
+    counts: BTreeMap<SpelledName<'a>, usize>,
 }
 
 impl<'a> Model for OpenNames<'a> {
     ghost use Rattle.std.specs.Prelude.{ℕ, List};
     ghost use Rattle.html_tree.specs.Chain.{names_of};
-    ghost use Rattle.html_tree.specs.Sums.{AreCounted};
+    ghost use Rattle.html_tree.specs.Counts.{AreCounted};
 
     ghost Value = { List (List ℕ) };
 
@@ -78,10 +81,9 @@ impl<'a> OpenNames<'a> {
     pub fn new(alloc: Global) -> OpenNames<'a>
         ensures { result ≡ [] }
     {
-        let names = Vec::new(alloc);
         OpenNames {
-            names,
-            counts: [0; SUMS],
+            names: Vec::new(alloc),
+            counts: BTreeMap::new(alloc),
         }
     }
 
@@ -95,9 +97,13 @@ impl<'a> OpenNames<'a> {
     pub fn push(&mut self, name: &'a str) -> Result<(), AllocError>
         ensures { OnOk result (self.new ≡ self.old ++ str_to_ascii_lowercase name.now ∷ []) }
     {
-        let sum = sum_of(name);
         self.names.push(name)?;
-        count_more(&mut self.counts, sum, self.names.len());
+        if self.names.len() > OUTER {
+            if let Err(error) = count_more(&mut self.counts, name, self.names.len()) {
+                let _ = self.names.pop();
+                return Err(error);
+            }
+        }
         Ok(())
     }
 
@@ -106,7 +112,9 @@ impl<'a> OpenNames<'a> {
         ensures { self.new ≡ take (length self.old - 1) self.old }
     {
         if let Some(name) = self.names.pop() {
-            count_less(&mut self.counts, sum_of(name));
+            if self.names.len() >= OUTER {
+                count_less(&mut self.counts, name);
+            }
         }
     }
 
@@ -121,11 +129,17 @@ impl<'a> OpenNames<'a> {
         }
     }
 
-    /// Whether an element of this name may be open; `false` only where none is.
-    fn may_have(&self, name: &str) -> bool
-        ensures { result ≡ false → list_any (λ n. bytes_eq n (str_to_ascii_lowercase name.now)) self.now ≡ false }
+    /// How many of the open elements, from the outermost on, an end tag of this name is compared with: none of those behind
+    /// them has its name.
+    fn compared(&self, tag: &'a str) -> usize
+        ensures within { result ≤ length self.now }
+        ensures none { list_any (λ n. bytes_eq n (str_to_ascii_lowercase tag.now)) (drop result self.now) ≡ false }
     {
-        has_some(&self.counts, sum_of(name))
+        if self.names.len() > OUTER && count_of(&self.counts, tag) == 0 {
+            OUTER
+        } else {
+            self.names.len()
+        }
     }
 
     /// How many of the open elements a start tag of this name leaves.
@@ -137,15 +151,11 @@ impl<'a> OpenNames<'a> {
     }
 
     /// How many of the open elements an end tag of this name leaves.
-    pub fn left_by_end(&self, tag: &str) -> usize
+    pub fn left_by_end(&self, tag: &'a str) -> usize
         ensures within { result ≤ length self.now }
         ensures left { Leaves (Ends (str_to_ascii_lowercase tag.now)) self.now result }
     {
-        if self.may_have(tag) {
-            left_by_end(self.names.as_slice(), tag)
-        } else {
-            self.len()
-        }
+        left_by_end(self.names.as_slice(), self.compared(tag), tag)
     }
 }
 
@@ -169,12 +179,15 @@ fn left_by_start(chain: &[&str], tag: &str) -> usize
     left
 }
 
-/// How many of the open elements an end tag of this name leaves.
-fn left_by_end(chain: &[&str], tag: &str) -> usize
+/// How many of the open elements an end tag of this name leaves, which is compared with the first `compared` of them, from the
+/// innermost to the outermost.
+fn left_by_end(chain: &[&str], compared: usize, tag: &str) -> usize
+    requires within { compared ≤ length chain.now }
+    requires none { list_any (λ n. bytes_eq n (str_to_ascii_lowercase tag.now)) (drop compared (names_of chain.now)) ≡ false }
     ensures within { result ≤ length chain.now }
     ensures left { Leaves (Ends (str_to_ascii_lowercase tag.now)) (names_of chain.now) result }
 {
-    let mut left = chain.len();
+    let mut left = compared;
     while left > 0 {
         if tag.eq_ignore_ascii_case(name_at(chain, left - 1)) {
             return left - 1;

@@ -10,7 +10,7 @@ ghost use Rattle.page_tree.specs.Edits.{appended, children_of};
 ghost use Rattle.page_tree.specs.Trees.{IsOrdinary};
 ghost use Rattle.html_meaning.specs.Page.{role_of, opened, content_of, fragment, page};
 ghost use Rattle.html_meaning.specs.References.{resolved};
-ghost use Rattle.page_tree.specs.Forest.{text, empty};
+ghost use Rattle.page_tree.specs.Forest.{text, empty, rooted, depth_in};
 ghost use Rattle.html_tokens.specs.Seen.{token_of};
 ghost use Rattle.html_tokens.specs.declared.tokens.Token.TheVariants.{Start};
 ghost use Rattle.html_tree.specs.Chain.{element_names, element_numbers, Leaves};
@@ -50,7 +50,7 @@ impl From<AllocError> for PageError {
 }
 
 /// How many of the open elements a token leaves.
-fn left_by(chain: &OpenNames, token: Token) -> usize
+fn left_by<'a>(chain: &OpenNames<'a>, token: Token<'a>) -> usize
     ensures within { result ≤ length chain.now }
     ensures left { Leaves (role_of (token_of token.entry).piece) chain.now result }
 {
@@ -231,16 +231,17 @@ fn error_of(error: DomError) -> PageError
     }
 }
 
-/// Puts a node behind the last child of `parent`.
-fn put(dom: &mut Dom, parent: u32, node: NewNode) -> Result<u32, PageError>
+/// Puts a node behind the last child of `parent`, which stands at this depth.
+fn put(dom: &mut Dom, parent: u32, depth: u32, node: NewNode) -> Result<u32, PageError>
     requires number { dom.old.next < 4294967295 }
+    requires depth { depth_in parent 0 (rooted dom.old.nodes) ≡ Some depth }
     requires ordinary { IsOrdinary (new_content node) }
     ensures answer { MatchOption (graft_refused parent (children_of parent dom.old) ((0, new_content node) ∷ []) dom.old)
         (IsOkUnless result PageError.NoMemory) (λ refusal. result ≡ Err (error_of (dom_error refusal))) }
     ensures number { IfOk result (λ n. n ≡ dom.old.next) }
     ensures tree { OnOk result (dom.new ≡ appended parent (single dom.old.next node) dom.old) }
 {
-    match dom.append(parent, node) {
+    match dom.append(parent, depth, node) {
         Ok(number) => Ok(number),
         Err(error) => Err(error_of(error)),
     }
@@ -263,7 +264,7 @@ pub fn read_page(alloc: Global, source: &str) -> Result<Dom, PageError>
         numbers.truncate(left);
         if let Some(node) = node_of(alloc, token)? {
             let parent = innermost(numbers.as_slice());
-            let number = put(&mut dom, parent, node)?;
+            let number = put(&mut dom, parent, left as u32, node)?;
             open_element(&mut chain, token)?;
             keep_number(&mut numbers, token, number)?;
         }

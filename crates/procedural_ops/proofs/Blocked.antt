@@ -1,6 +1,6 @@
 -- A `:has()` that looks at what is below fails for all below an element for which it fails.
-use Rattle.std.proofs.Common.{◌≡◌, ◌==◌, ℕ, true, false, inl, inr, List, [], ◌∷◌, All, Option, Some, None, IfSome, IsSomeAnd, refl, sym, ap, ◌∙◌}
-use Rattle.std.specs.List.{list_any}
+use Rattle.std.proofs.Common.{◌≡◌, ◌==◌, ◌&&◌, ◌++◌, ℕ, Bool, append-nil, true, false, inl, inr, List, [], ◌∷◌, All, Option, Some, None, IfSome, IsSomeAnd, refl, sym, ap, ◌∙◌}
+use Rattle.std.specs.List.{list_any, list_all}
 use Rattle.std.proofs.lemmas.Bool.{eqb-true, or_cases, or_left, or_right, and_from, and_parts, both_ways, false_from_ne_true, true_from_ne_false}
 use Rattle.std.proofs.lemmas.List.Elements.{All-head, All-tail}
 use Rattle.cos_patterns.specs.declared.written.Written.{Written}
@@ -11,7 +11,9 @@ use Rattle.page_tree.specs.Directions.{is_in}
 use Rattle.page_tree.specs.Trees.{IsTree}
 use Rattle.page_tree.proofs.Around.{above-parent}
 use Rattle.selector_tree.specs.declared.selector.Place.TheVariants.{Descendant}
-use Rattle.selector_tree.specs.declared.selector.Step.{Step}
+use Rattle.selector_tree.specs.declared.selector.Step.{Step, out-Step}
+use Rattle.selector_tree.specs.declared.selector.Step.TheOpen.{Step-F}
+use Rattle.selector_tree.specs.declared.selector.Test.{Test}
 use Rattle.selector_tree.specs.declared.selector.Step.TheVariants as step
 use Rattle.selector_tree.specs.declared.selector.Test.TheVariants as test
 use Rattle.selector_meaning.specs.Texts.{Bytes}
@@ -20,7 +22,12 @@ use Rattle.selector_match.specs.Asked.{IsElement}
 use Rattle.proper_filters.specs.Proper.{are_inner, is_inner_selector}
 use Rattle.procedural_ops.specs.Reaching.{leads_from, some_leads}
 use Rattle.procedural_ops.specs.Walks.{targets}
-use Rattle.procedural_ops.specs.Blocked.{Blocks, BeginsBelow, LooksBelow}
+use Rattle.procedural_ops.specs.Blocked.{Blocks, BeginsBelow, HasBelow, LooksBelow}
+use Rattle.procedural_ops.specs.Count.{asks, asks_at, is_plain_step, is_plain_step_at}
+use Rattle.procedural_ops.specs.Runs.{is_keep, is_keep_at, keeps, single_keeps}
+use Rattle.procedural_ops.proofs.Keeping.{leads_run, is_keep-Keep}
+use Rattle.procedural_ops.proofs.Simple.{plain_run}
+use Rattle.procedural_ops.proofs.Weights.{all-append}
 use Rattle.procedural_ops.proofs.Any.{any-found, any-made}
 use Rattle.procedural_ops.proofs.Duals.{is_in-targets}
 use Rattle.procedural_ops.proofs.Steps as steps
@@ -77,8 +84,8 @@ module _ (t : Tree) (tree : IsTree t) where
     down_selector l begins inner f w f_is w_is up h = down_some l begins inner f w f_is w_is up h
 
     -- where such a `:has()` fails for f, it fails for all below it
-    pub blocked : (s : List Step) → are_inner patterns s ≡ true → LooksBelow s → (f : ℕ) → IsElement t f → leads_from t path s f ≡ false → Blocks t path s f
-    blocked s inner looks f f_is fails w w_is up =
+    one_blocked : (s : List Step) → are_inner patterns s ≡ true → (first : Step) × (s ≡ first ∷ []) × HasBelow first → (f : ℕ) → IsElement t f → leads_from t path s f ≡ false → Blocks t path s f
+    one_blocked s inner looks f f_is fails w w_is up =
         let first = looks.0 in
         let q = looks.2.0 in
         let l = looks.2.2.0 in
@@ -95,6 +102,63 @@ module _ (t : Tree) (tree : IsTree t) where
         let leads_f : true ≡ leads_from t path s f =
         steps.leads_kept t path tree patterns s [] first f looks.1 parts.1 f_is q keeps true true (sym holds_f) refl (steps.leads_none t path [] f refl) in
         both_ways false refl (sym fails ∙ sym leads_f))
+
+    off : (a : Bool) → (a && false) ≡ false
+    off true = refl
+    off false = refl
+
+    on : (a : Bool) → (a && true) ≡ a
+    on true = refl
+    on false = refl
+
+    asks_plain : (s : Step) → asks s ≡ true → (is_plain_step s ≡ true) × (is_keep s ≡ true)
+    asks_plain s h = by (out-Step s) h
+      where
+        by : (o : Step-F Step Test) → asks_at o ≡ true → (is_plain_step_at o ≡ true) × (is_keep_at o ≡ true)
+        by (Step-F.Keep q) e = (e, refl)
+        by (Step-F.Move place) e = absurd (both_ways false refl e)
+        by (Step-F.Upward n) e = absurd (both_ways false refl e)
+        by (Step-F.UpwardTo l) e = absurd (both_ways false refl e)
+        by Step-F.Others e = absurd (both_ways false refl e)
+
+    all_plain : (front : List Step) → list_all asks front ≡ true → (list_all is_plain_step front ≡ true) × (list_all is_keep front ≡ true)
+    all_plain [] h = (refl, refl)
+    all_plain (s ∷ front) h =
+        let p = and_parts (asks s) (list_all asks front) h in
+        let one = asks_plain s p.0 in
+        let more = all_plain front p.1 in
+        (and_from (is_plain_step s) (list_all is_plain_step front) one.0 more.0, and_from (is_keep s) (list_all is_keep front) one.1 more.1)
+
+    -- steps that keep lead on where they all hold
+    leads_kept_all : (s : List Step) → list_all is_keep s ≡ true → are_inner patterns s ≡ true → (x : ℕ) → IsElement t x → leads_from t path s x ≡ list_all (keeps t path x) s
+    leads_kept_all s kept inner x x_is =
+        ap (λ (l : List Step). leads_from t path l x) (sym (append-nil s))
+        ∙ leads_run t path tree patterns s [] x kept (ap (are_inner patterns) (append-nil s) ∙ inner) x_is
+        ∙ ap (λ b. list_all (keeps t path x) s && b) (sym (steps.leads_none t path [] x refl)) ∙ on (list_all (keeps t path x) s)
+
+    -- where the tests before it hold for f, and it fails for f, the steps lead to nothing from what is below
+    pub blocked : (s : List Step) → are_inner patterns s ≡ true → LooksBelow s → (f : ℕ) → IsElement t f → list_all (single_keeps t path f) s ≡ true → leads_from t path s f ≡ false → Blocks t path s f
+    blocked s inner looks f f_is holds_f fails w w_is up =
+        let front = looks.0 in
+        let last = looks.1 in
+        let is : s ≡ front ++ last ∷ [] = looks.2 in
+        let plain = all_plain front looks.3 in
+        let q = looks.4.0 in
+        let last_keeps : is_keep last ≡ true = is_keep-Keep last q looks.4.1 in
+        let kept : list_all is_keep s ≡ true =
+        ap (list_all is_keep) is ∙ all-append is_keep front (last ∷ []) ∙ and_from (list_all is_keep front) (is_keep last && true) plain.1 (and_from (is_keep last) true last_keeps refl) in
+        let split : (x : ℕ) → IsElement t x → leads_from t path s x ≡ (list_all (keeps t path x) front && keeps t path x last) =
+        λ x x_is. leads_kept_all s kept inner x x_is ∙ ap (list_all (keeps t path x)) is ∙ all-append (keeps t path x) front (last ∷ []) ∙ ap (λ b. list_all (keeps t path x) front && b) (on (keeps t path x last)) in
+        let front_f : list_all (keeps t path f) front ≡ true =
+        sym (plain_run t path f front plain.0) ∙ (and_parts (list_all (single_keeps t path f) front) (list_all (single_keeps t path f) (last ∷ []))
+        (sym (ap (list_all (single_keeps t path f)) is ∙ all-append (single_keeps t path f) front (last ∷ [])) ∙ holds_f)).0 in
+        let last_f : keeps t path f last ≡ false = sym (ap (λ b. b && keeps t path f last) front_f) ∙ sym (split f f_is) ∙ fails in
+        let inner_last : are_inner patterns (last ∷ []) ≡ true =
+        (and_parts (are_inner patterns front) (are_inner patterns (last ∷ [])) (sym (weights.inner-append patterns front (last ∷ [])) ∙ sym (ap (are_inner patterns) is) ∙ inner)).1 in
+        let one : (x : ℕ) → IsElement t x → leads_from t path (last ∷ []) x ≡ keeps t path x last =
+        λ x x_is. leads_kept_all (last ∷ []) (and_from (is_keep last) true last_keeps refl) inner_last x x_is ∙ on (keeps t path x last) in
+        let at_w = one_blocked (last ∷ []) inner_last (last, refl, looks.4) f f_is (one f f_is ∙ last_f) w w_is up in
+        split w w_is ∙ ap (λ b. list_all (keeps t path w) front && b) (sym (one w w_is) ∙ at_w) ∙ off (list_all (keeps t path w) front)
 
   -- below an element that blocks, steps lead to nothing
   pub under : (path : Bytes) (s : List Step) (z : ℕ) → IsElement t z → (o : Option ℕ) → IfSome o (Blocks t path s) → IsSomeAnd o (λ f. is_in (above t z) f ≡ true)

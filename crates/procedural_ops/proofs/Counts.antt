@@ -34,11 +34,11 @@ one true false on = absurd (both_ways false refl (on refl))
 one false true on = omega arith
 one false false on = omega arith
 
-passing_le : (p q : ℕ → Bool) → ((z : ℕ) → p z ≡ true → q z ≡ true) → (l : List ℕ) → many_passing p l ≤ many_passing q l
+pub passing_le : (p q : ℕ → Bool) → ((z : ℕ) → p z ≡ true → q z ≡ true) → (l : List ℕ) → many_passing p l ≤ many_passing q l
 passing_le p q on [] = omega arith
 passing_le p q on (x ∷ l) = omega (arith, one (p x) (q x) (on x), passing_le p q on l)
 
-passing_less : (p q : ℕ → Bool) → ((z : ℕ) → p z ≡ true → q z ≡ true) → (l : List ℕ) (w : ℕ) → is_in l w ≡ true → p w ≡ false → q w ≡ true →
+pub passing_less : (p q : ℕ → Bool) → ((z : ℕ) → p z ≡ true → q z ≡ true) → (l : List ℕ) (w : ℕ) → is_in l w ≡ true → p w ≡ false → q w ≡ true →
     many_passing p l + 1 ≤ many_passing q l
 passing_less p q on [] w h left right = absurd (both_ways false refl h)
 passing_less p q on (x ∷ l) w h left right =
@@ -51,13 +51,13 @@ passing_less p q on (x ∷ l) w h left right =
       | inr e ↦ omega (arith, one (p x) (q x) (on x), passing_less p q on l w e left right)
     ]
 
-passing_few : (p : ℕ → Bool) (l : List ℕ) → many_passing p l ≤ length l
+pub passing_few : (p : ℕ → Bool) (l : List ℕ) → many_passing p l ≤ length l
 passing_few p [] = omega arith
 passing_few p (x ∷ l) = omega (arith, one (p x) true (λ e. refl), passing_few p l)
 
 -- ---- what is still to be asked
 
-flip : (a b : Bool) → (a ≡ true → b ≡ true) → not b ≡ true → not a ≡ true
+pub flip : (a b : Bool) → (a ≡ true → b ≡ true) → not b ≡ true → not a ≡ true
 flip true true on h = h
 flip true false on h = absurd (both_ways false refl (on refl))
 flip false b on h = refl

@@ -165,6 +165,14 @@ module _ (t : Tree) (path : Bytes) (x : ℕ) where
   pub nested_fails : (run : List Step) → list_all (nested_keeps t path x) run ≡ false → list_all (keeps t path x) run ≡ false
   nested_fails run h = all_off (nested_keeps t path x) (keeps t path x) (λ s e. (either_step (out-Step s) s refl e).1) run h
 
+  -- where those without selectors hold
+  pub nested_all : (run : List Step) → list_all (single_keeps t path x) run ≡ true → list_all (nested_keeps t path x) run ≡ list_all (keeps t path x) run
+  nested_all run h = by (list_all (nested_keeps t path x) run) refl
+    where
+      by : (b : Bool) → list_all (nested_keeps t path x) run ≡ b → list_all (nested_keeps t path x) run ≡ list_all (keeps t path x) run
+      by true e = e ∙ sym (all_both run h e)
+      by false e = e ∙ sym (nested_fails run e)
+
   -- ---- tests with selectors in them
 
   pub nested_is : (q : Test) (l : List (List Step)) → q ≡ test.Is l → nested_holds t path q x ≡ some_gives t path l x

@@ -1,13 +1,12 @@
 -- How much a run of tests asks, and chains without selectors in their tests.
-use Rattle.std.proofs.Common.{◌≡◌, ℕ, zero, suc, ◌+◌, ◌*◌, ◌<◌, ◌≤◌, Bool, true, false, ◌&&◌, ◌||◌, not, cond, List, [], ◌∷◌, map, take, drop, length, get_or, Some, None, refl, sym, ap, ◌∙◌, arith}
-use Rattle.std.proofs.lemmas.Bool.{both_ways, and_parts}
+use Rattle.std.proofs.Common.{◌≡◌, ℕ, zero, suc, ◌+◌, ◌*◌, ◌<◌, ◌≤◌, Bool, true, ◌&&◌, ◌||◌, not, cond, List, [], ◌∷◌, take, drop, length, get_or, Some, None, refl, sym, ap, ◌∙◌, arith}
+use Rattle.std.proofs.lemmas.Bool.{and_parts}
 use Rattle.std.proofs.lemmas.List.{take-append-drop}
 use Rattle.std.specs.List.{list_all}
 use Rattle.selector_tree.specs.declared.selector.Arg.TheVariants.{Literal, Pattern}
-use Rattle.selector_tree.specs.declared.selector.Step.{Step, out-Step, fold-Step}
+use Rattle.selector_tree.specs.declared.selector.Step.{Step, out-Step}
 use Rattle.selector_tree.specs.declared.selector.Step.TheOpen.{Step-F, Test-F}
-use Rattle.selector_tree.specs.declared.selector.Step.TheFolds.{fold_out-Step, fold_out-Test, map-Step, map-Test}
-use Rattle.selector_tree.specs.declared.selector.Test.{Test, out-Test, fold-Test}
+use Rattle.selector_tree.specs.declared.selector.Test.{Test, out-Test}
 use Rattle.page_tree.specs.Forest.{Tree}
 use Rattle.cos_patterns.specs.Found.{pattern_found}
 use Rattle.selector_meaning.specs.Texts.{Bytes}
@@ -16,8 +15,7 @@ use Rattle.selector_match.specs.Kinds.{is_single, is_single_at}
 use Rattle.procedural_ops.specs.declared.runs.Cost.{Cost}
 use Rattle.procedural_ops.specs.declared.runs.Cost.TheVariants.{Names, Places, Texts, Patterns}
 use Rattle.procedural_ops.specs.Runs.{cost_at, is_cost, keeps, single_keeps}
-use Rattle.procedural_ops.specs.Count.{asks, asks_at, many_asked, costs, costs_at, many_costing, is_plain_step, is_plain_step_at, are_plain, simple_step, simple_test, simple_tests}
-use Rattle.procedural_ops.specs.Weight.{total}
+use Rattle.procedural_ops.specs.Count.{asks_at, many_asked, costs, costs_at, many_costing, is_plain_step}
 use Rattle.procedural_ops.proofs.Weights.{all-append}
 
 -- ---- each test without selectors costs one of the four
@@ -107,65 +105,7 @@ module _ (t : Tree) (path : Bytes) (x : ℕ) where
       let p = and_parts (is_plain_step s) (list_all is_plain_step run) h in
       ap (λ b. b && list_all (single_keeps t path x) run) (plain_keep (out-Step s) s refl p.0) ∙ ap (λ b. keeps t path x s && b) (plain_run run p.1)
 
--- ---- how many tests a plain selector has
-
-simple_single : (o : Test-F Step Test) → is_single_at o ≡ true → simple_test (map-Test Step Test ℕ ℕ (fold-Step ℕ ℕ simple_step simple_test) (fold-Test ℕ ℕ simple_step simple_test) o) ≡ 1
-simple_single Test-F.Any h = refl
-simple_single (Test-F.Tag n) h = refl
-simple_single (Test-F.Id v) h = refl
-simple_single (Test-F.Class v) h = refl
-simple_single (Test-F.Attr key op v i) h = refl
-simple_single Test-F.Root h = refl
-simple_single Test-F.Empty h = refl
-simple_single (Test-F.Nth m n e o) h = refl
-simple_single (Test-F.Only o) h = refl
-simple_single (Test-F.Is l) h = absurd (both_ways false refl h)
-simple_single (Test-F.Not l) h = absurd (both_ways false refl h)
-simple_single (Test-F.Has l) h = absurd (both_ways false refl h)
-simple_single (Test-F.HasText arg) h = refl
-simple_single (Test-F.MinText n) h = refl
-simple_single (Test-F.MatchesPath arg) h = refl
-simple_single (Test-F.MatchesAttr key value) h = refl
-simple_single (Test-F.WatchAttr names) h = refl
-
-simple_layer : (o : Step-F Step Test) → is_plain_step_at o ≡ true →
-    simple_step (map-Step Step Test ℕ ℕ (fold-Step ℕ ℕ simple_step simple_test) (fold-Test ℕ ℕ simple_step simple_test) o) ≡ one_of (asks_at o)
-simple_layer (Step-F.Keep q) h = fold_out-Test ℕ ℕ simple_step simple_test q ∙ simple_single (out-Test q) h ∙ ap one_of (sym h)
-simple_layer (Step-F.Move place) h = refl
-simple_layer (Step-F.Upward n) h = absurd (both_ways false refl h)
-simple_layer (Step-F.UpwardTo l) h = absurd (both_ways false refl h)
-simple_layer Step-F.Others h = absurd (both_ways false refl h)
-
-abbrev simple_of : Step → ℕ
-simple_of = fold-Step ℕ ℕ simple_step simple_test
-
-pub simple_chain : (steps : List Step) → list_all is_plain_step steps ≡ true → total (map simple_of steps) ≡ many_asked steps
-simple_chain [] h = refl
-simple_chain (s ∷ steps) h =
-    let p = and_parts (is_plain_step s) (list_all is_plain_step steps) h in
-    let a : simple_of s ≡ one_of (asks s) = fold_out-Step ℕ ℕ simple_step simple_test s ∙ simple_layer (out-Step s) p.0 in
-    omega (arith, a, simple_chain steps p.1)
-
--- the first i chains, and one more
-pub simple_more : (l : List (List Step)) (i : ℕ) (c : List Step) → i < length l → c ≡ get_or l i c → are_plain l ≡ true →
-    (simple_tests (take (i + 1) l) ≡ simple_tests (take i l) + many_asked c) × (list_all is_plain_step c ≡ true)
-simple_more [] i c h e plain = absurd (omega (arith, h))
-simple_more (d ∷ l) zero c h e plain =
-    let p = and_parts (list_all is_plain_step d) (are_plain l) plain in
-    let all : list_all is_plain_step c ≡ true = ap (list_all is_plain_step) e ∙ p.0 in
-    let a : total (map simple_of d) ≡ many_asked c = ap (λ (s : List Step). total (map simple_of s)) (sym e) ∙ simple_chain c all in
-    (omega (arith, a), all)
-simple_more (d ∷ l) (suc i) c h e plain =
-    let r = simple_more l i c (omega (arith, h)) e (and_parts (list_all is_plain_step d) (are_plain l) plain).1 in
-    let n : suc i + 1 ≡ suc (i + 1) = omega arith in
-    let f = ap (λ (k : ℕ). simple_tests (take k (d ∷ l))) n in
-    (omega (arith, r.0, f), r.1)
-
-pub simple_few : (l : List (List Step)) (i : ℕ) → simple_tests (take i l) ≤ simple_tests l
-simple_few [] zero = omega arith
-simple_few [] (suc i) = omega arith
-simple_few (d ∷ l) zero = omega arith
-simple_few (d ∷ l) (suc i) = omega (arith, simple_few l i)
+-- ---- sums
 
 -- one chain more asks so much more
 pub product_more : (a b c n old now next : ℕ) → now ≤ old + a * n → next ≤ now + b * n → c ≡ a + b → next ≤ old + c * n

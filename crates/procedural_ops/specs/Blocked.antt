@@ -1,5 +1,6 @@
 -- Where steps lead to nothing from an element, and so to nothing from what is below it.
-use Rattle.std.specs.Prelude.{◌≡◌, ℕ, true, false, List, [], ◌∷◌, All}
+use Rattle.std.specs.Prelude.{◌≡◌, ℕ, true, false, List, [], ◌∷◌, ◌++◌, All}
+use Rattle.std.specs.List.{list_all}
 use Rattle.page_tree.specs.Forest.{Tree}
 use Rattle.page_tree.specs.Standings.{above}
 use Rattle.page_tree.specs.Directions.{is_in}
@@ -10,6 +11,7 @@ use Rattle.selector_tree.specs.declared.selector.Test.{Test}
 use Rattle.selector_tree.specs.declared.selector.Test.TheVariants as test
 use Rattle.selector_meaning.specs.Texts.{Bytes}
 use Rattle.selector_match.specs.Asked.{IsElement}
+use Rattle.procedural_ops.specs.Count.{asks}
 use Rattle.procedural_ops.specs.Reaching.{leads_from}
 
 -- the steps lead to nothing from the elements below f
@@ -28,6 +30,6 @@ TestBelow q = (l : List (List Step)) × (q ≡ test.Has l) × All BeginsBelow l
 abbrev pub HasBelow : Step → Type 0
 HasBelow s = (q : Test) × (s ≡ step.Keep q) × TestBelow q
 
--- the steps are that one step
+-- the steps are that one step, behind tests without selectors in them
 abbrev pub LooksBelow : List Step → Type 0
-LooksBelow steps = (s : Step) × (steps ≡ s ∷ []) × HasBelow s
+LooksBelow steps = (front : List Step) × (s : Step) × (steps ≡ front ++ s ∷ []) × (list_all asks front ≡ true) × HasBelow s

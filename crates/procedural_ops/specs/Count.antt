@@ -1,13 +1,12 @@
 -- How much a search that climbs has still to ask.
-use Rattle.std.specs.Prelude.{ℕ, suc, ◌+◌, Bool, true, false, ◌&&◌, ◌||◌, ◌==◌, not, nat_lt, cond, List, [], ◌∷◌, map, Option, Some, None}
+use Rattle.std.specs.Prelude.{ℕ, suc, ◌+◌, Bool, true, false, ◌&&◌, ◌||◌, ◌==◌, not, nat_lt, cond, List, [], ◌∷◌, Option, Some, None}
 use Rattle.std.specs.List.{list_all}
-use Rattle.selector_tree.specs.declared.selector.Step.{Step, out-Step, fold-Step}
-use Rattle.selector_tree.specs.declared.selector.Step.TheOpen.{Step-F, Test-F}
+use Rattle.selector_tree.specs.declared.selector.Step.{Step, out-Step}
+use Rattle.selector_tree.specs.declared.selector.Step.TheOpen.{Step-F}
 use Rattle.selector_tree.specs.declared.selector.Test.{Test}
 use Rattle.page_tree.specs.Forest.{Tree}
 use Rattle.page_tree.specs.Standings.{all}
 use Rattle.selector_match.specs.Kinds.{is_single}
-use Rattle.procedural_ops.specs.Weight.{total}
 use Rattle.procedural_ops.specs.Once.{level, most_left, children_behind, rank}
 use Rattle.procedural_ops.specs.Runs.{cost_of, is_cost}
 use Rattle.procedural_ops.specs.declared.climb.Climb.{Climb}
@@ -38,22 +37,6 @@ is_plain_step s = is_plain_step_at (out-Step s)
 -- each chain of the selector is of such steps
 abbrev pub are_plain : List (List Step) → Bool
 are_plain l = list_all (list_all is_plain_step) l
-
--- one layer: the tests without selectors in it, at any depth
-abbrev pub simple_step : Step-F ℕ ℕ → ℕ
-simple_step (Step-F.Keep q) = q
-simple_step (Step-F.UpwardTo l) = total (map total l)
-simple_step _ = 0
-
-abbrev pub simple_test : Test-F ℕ ℕ → ℕ
-simple_test (Test-F.Is l) = total (map total l)
-simple_test (Test-F.Not l) = total (map total l)
-simple_test (Test-F.Has l) = total (map total l)
-simple_test _ = 1
-
--- how many tests without selectors in them a selector has, at any depth
-abbrev pub simple_tests : List (List Step) → ℕ
-simple_tests l = total (map total (map (map (fold-Step ℕ ℕ simple_step simple_test)) l))
 
 -- the step asks a test of this cost
 abbrev pub costs_at : Cost → Step-F Step Test → Bool

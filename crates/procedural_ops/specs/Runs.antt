@@ -21,6 +21,14 @@ is_keep_at _ = false
 abbrev pub is_keep : Step → Bool
 is_keep s = is_keep_at (out-Step s)
 
+-- the step keeps by a test with selectors in it
+abbrev pub is_nested_at : Step-F Step Test → Bool
+is_nested_at (Step-F.Keep q) = not (is_single q)
+is_nested_at _ = false
+
+abbrev pub is_nested : Step → Bool
+is_nested s = is_nested_at (out-Step s)
+
 abbrev pub cost_of_text : Arg → Cost
 cost_of_text (Literal l) = Texts
 cost_of_text (Pattern body flags number) = Patterns

@@ -1,5 +1,7 @@
 //! Steps that go up, and where elements stand to one another.
 ghost use Rattle.std.specs.Prelude.{◌≡◌, ◌≤◌, ◌||◌, ◌&&◌, true, length, All, IfSome, IsSomeAnd};
+ghost use Rattle.std.specs.List.{list_all};
+ghost use Rattle.procedural_ops.specs.Count.{asks};
 ghost use Rattle.page_tree.specs.Directions.{is_in};
 ghost use Rattle.procedural_ops.specs.Blocked.{BeginsBelow, TestBelow, HasBelow, LooksBelow};
 ghost use Rattle.page_tree.specs.Standings.{above};
@@ -7,6 +9,7 @@ ghost use Rattle.selector_meaning.specs.Meaning.{ancestor, is_apart, is_beside, 
 ghost use Rattle.selector_match.specs.Asked.{IsElement};
 ghost use Rattle.procedural_ops.specs.Reaching.{goes_up, first_up_of, is_shown_name};
 
+use crate::runs::is_single;
 use dom_arena::Dom;
 use selector_match::{in_place, parent};
 use selector_tree::{Chain, Place, Step, Test};
@@ -117,14 +120,34 @@ pub(crate) fn is_under(dom: &Dom, top: Option<u32>, z: u32) -> bool
     }
 }
 
-/// Whether steps are one `:has()` whose chains go down first, to whatever is below. Where it fails for an element, it fails for
-/// all below that.
+/// Whether steps are tests without selectors in them and then one `:has()` whose chains go down first, to whatever is below.
+/// Where those tests hold for an element and the `:has()` fails, it fails for all below that.
 pub(crate) fn looks_below(steps: &[Step]) -> bool
     ensures { result ≡ true → LooksBelow steps.now }
 {
-    match steps.split_first() {
-        Some((first, more)) => more.is_empty() && is_has_below(first),
+    match steps.split_last() {
+        Some((last, front)) => all_ask(front) && is_has_below(last),
         None => false,
+    }
+}
+
+fn all_ask(steps: &[Step]) -> bool
+    ensures { result ≡ list_all asks steps.now }
+{
+    for step in steps {
+        if !asks(step) {
+            return false;
+        }
+    }
+    true
+}
+
+fn asks(step: &Step) -> bool
+    ensures { result ≡ asks step.now }
+{
+    match step {
+        Step::Keep(test) => is_single(test),
+        _ => false,
     }
 }
 

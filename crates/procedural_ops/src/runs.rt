@@ -5,7 +5,7 @@ ghost use Rattle.selector_match.specs.Asked.{IsElement};
 ghost use Rattle.proper_filters.specs.Proper.{are_own, is_own};
 ghost use Rattle.selector_match.specs.Kinds.{is_single};
 ghost use Rattle.procedural_ops.specs.Count.{costs, many_asked, many_costing};
-ghost use Rattle.procedural_ops.specs.Runs.{is_keep, cost_of, is_cost, cost_keeps, single_keeps};
+ghost use Rattle.procedural_ops.specs.Runs.{is_keep, is_nested, cost_of, is_cost, cost_keeps, single_keeps};
 
 use cos_outside::Steps;
 use cos_patterns::PatternTable;
@@ -48,7 +48,7 @@ pub(crate) fn cost_of(test: &Test) -> Option<Cost>
     }
 }
 
-fn has_cost(test: &Test, cost: Cost) -> bool
+pub(crate) fn has_cost(test: &Test, cost: Cost) -> bool
     ensures { result ≡ is_cost (cost_of test.now) cost }
 {
     match (cost_of(test), cost) {
@@ -76,6 +76,16 @@ fn is_keep(step: &Step) -> bool
 {
     match step {
         Step::Keep(_) => true,
+        _ => false,
+    }
+}
+
+/// Whether a step keeps by a test with selectors in it.
+pub(crate) fn is_nested(step: &Step) -> bool
+    ensures { result ≡ is_nested step.now }
+{
+    match step {
+        Step::Keep(test) => !is_single(test),
         _ => false,
     }
 }

@@ -20,13 +20,13 @@ fn page(alloc: Global) -> Result<Dom, DomError> {
     let mut dom = Dom::new(alloc)?;
     let name = Text::of(alloc, "div")?;
     let attrs = Attrs::new(alloc);
-    dom.append(0, NewNode::Element { name, attrs })?;
+    dom.add(0, 0, NewNode::Element { name, attrs })?;
     let name = Text::of(alloc, "p")?;
     let attrs = Attrs::new(alloc);
-    dom.append(1, NewNode::Element { name, attrs })?;
+    dom.add(1, 0, NewNode::Element { name, attrs })?;
     let name = Text::of(alloc, "p")?;
     let attrs = Attrs::new(alloc);
-    dom.append(0, NewNode::Element { name, attrs })?;
+    dom.add(0, 1, NewNode::Element { name, attrs })?;
     Ok(dom)
 }
 

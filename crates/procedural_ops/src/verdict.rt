@@ -1,16 +1,15 @@
 ghost use Rattle.std.specs.Prelude.{◌≡◌, ◌+◌, ◌*◌, ◌<◌, ◌≤◌, true, length, IfOk};
-ghost use Rattle.std.specs.List.{list_all};
 ghost use Rattle.page_tree.specs.Standings.{all};
 ghost use Rattle.page_tree.specs.Directions.{is_in};
 ghost use Rattle.cos_patterns.specs.Found.{pattern_found};
 ghost use Rattle.selector_meaning.specs.Meaning.{selects};
 ghost use Rattle.selector_match.specs.Asked.{IsElement};
 ghost use Rattle.proper_filters.specs.Proper.{is_proper, are_own};
-ghost use Rattle.procedural_ops.specs.Count.{is_plain_step, are_plain, many_asked, simple_tests};
+ghost use Rattle.procedural_ops.specs.Noted.{chain_tests, simple_tests};
 ghost use Rattle.procedural_ops.specs.Reaching.{reached, is_selected};
 ghost use Rattle.procedural_ops.specs.Told.{selector_at};
 
-use crate::{plain, search};
+use crate::{own, plain};
 use cos_outside::Steps;
 use cos_patterns::PatternTable;
 use dom_arena::Dom;
@@ -62,7 +61,7 @@ impl Verdict {
 ///
 /// The table has each pattern of the filter under its number, and `:others()` stands in the filter's own chains alone. Each
 /// call counts as one check, and each test without selectors in it that is asked of an element as one of the `parts`, also
-/// where there is no memory. A filter of combinators and such tests alone asks each of them at most once of each element.
+/// where there is no memory. Each of them, at whatever depth of the filter it stands, is asked at most once of each element.
 pub fn test<L: Ledger, P: Ledger>(
     alloc: Global,
     dom: &Dom,
@@ -81,8 +80,7 @@ pub fn test<L: Ledger, P: Ledger>(
     ensures element { IfOk result (λ verdict. verdict.element ≡ x) }
     ensures answer { IfOk result (λ verdict. verdict.yes ≡ selects pattern_found dom.now path.now (selector_at active.now f) x) }
     ensures counted { checks.new ≡ checks.old + 1 }
-    ensures asked { are_plain (selector_at active.now f) ≡ true →
-        parts.new ≤ parts.old + simple_tests (selector_at active.now f) * length (all dom.now) }
+    ensures asked { parts.new ≤ parts.old + simple_tests (selector_at active.now f) * length (all dom.now) }
 {
     checks.tick();
     let yes = decide(alloc, dom, path, table, active, f, x, parts)?;
@@ -108,8 +106,7 @@ fn decide<P: Ledger>(
     requires element { IsElement dom.now x }
     requires proper { is_proper table.now.patterns (selector_at active.now f) ≡ true }
     ensures answer { IfOk result (λ yes. yes ≡ selects pattern_found dom.now path.now (selector_at active.now f) x) }
-    ensures asked { are_plain (selector_at active.now f) ≡ true →
-        parts.new ≤ parts.old + simple_tests (selector_at active.now f) * length (all dom.now) }
+    ensures asked { parts.new ≤ parts.old + simple_tests (selector_at active.now f) * length (all dom.now) }
 {
     match active.at(f as usize) {
         Some(filter) => selects(
@@ -138,8 +135,7 @@ fn selects<P: Ledger>(
     requires element { IsElement dom.now x }
     requires proper { is_proper table.now.patterns selector.now ≡ true }
     ensures answer { IfOk result (λ answer. answer ≡ is_selected dom.now path.now selector.now x) }
-    ensures asked { are_plain selector.now ≡ true →
-        parts.new ≤ parts.old + simple_tests selector.now * length (all dom.now) }
+    ensures asked { parts.new ≤ parts.old + simple_tests selector.now * length (all dom.now) }
 {
     for chain in selector {
         if chain_selects(alloc, dom, path, table, chain.as_slice(), x, parts)? {
@@ -162,12 +158,11 @@ fn chain_selects<P: Ledger>(
     requires element { IsElement dom.now x }
     requires proper { are_own table.now.patterns steps.now ≡ true }
     ensures answer { IfOk result (λ answer. answer ≡ is_in (reached dom.now path.now steps.now) x) }
-    ensures asked { list_all is_plain_step steps.now ≡ true →
-        parts.new ≤ parts.old + many_asked steps.now * length (all dom.now) }
+    ensures asked { parts.new ≤ parts.old + length (chain_tests steps.now) * length (all dom.now) }
 {
     if plain::is_plain(steps) {
         plain::is_reached(alloc, dom, path, table, steps, x, parts)
     } else {
-        search::is_reached(alloc, dom, path, table, steps, x, parts)
+        own::is_reached(alloc, dom, path, table, steps, x, parts)
     }
 }

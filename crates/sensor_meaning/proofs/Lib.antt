@@ -1,3 +1,4 @@
 pub mod Laws
+pub mod Exact
 mod Tables
 mod Worked

@@ -1,4 +1,5 @@
 pub mod Sensors
+pub mod Order
 pub mod Changes
 pub mod Dirty
 pub mod Nested

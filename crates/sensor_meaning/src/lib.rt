@@ -7,6 +7,7 @@
 #![tactic(auto)]
 
 mod change;
+mod order;
 mod sensor;
 
 pub use change::Change;

@@ -1,11 +1,11 @@
-use Rattle.std.proofs.Common.{◌≡◌, ◌≤◌, ◌<◌, ℕ, List, [], ◌∷◌, ◌++◌, true, false, not, min, take, drop, length, arith, ap, sym, ◌∙◌, refl}
+use Rattle.std.proofs.Common.{◌≡◌, ◌≤◌, ◌<◌, ℕ, List, [], ◌∷◌, ◌++◌, true, false, not, min, take, drop, length, arith, ap, sym, ◌∙◌}
 use Rattle.std.proofs.lemmas.List.{length-map}
 use Rattle.html_meaning.specs.Bytes.{is_among}
 use Rattle.html_tree.specs.declared.attributes.TheConstants.{FEW}
 use Rattle.html_tree.specs.declared.spelled.SpelledName.{SpelledName}
 use Rattle.html_tree.specs.Spelled.{lower_of}
 use Rattle.html_tree.specs.LaterNames.{names_in}
-use Rattle.html_tree.proofs.FirstNames.{has_early, has_later, few_new, later_early, later_more, later_again, inserted, not_false, not_true}
+use Rattle.html_tree.proofs.FirstNames.{has_early, has_later, few_new, later_early, later_more, later_again, inserted, not_false}
 use Rattle.html_tree.proofs.attributes.is_new.Goals as goal
 
 pub returns-then-is_name_among-clause-new : goal.returns-then-is_name_among-clause-new

@@ -1,10 +1,9 @@
-use Rattle.std.proofs.Common.{◌≡◌, ℕ, List, [], ◌∷◌, ◌++◌, true, false, not, sym, ap, ◌∙◌, subst, refl}
-use Rattle.std.proofs.lemmas.List.{map-append}
+use Rattle.std.proofs.Common.{◌≡◌, ℕ, List, [], ◌∷◌, ◌++◌, false, sym, ap, ◌∙◌}
 use Rattle.std.specs.Str.{str_to_ascii_lowercase}
 use Rattle.html_meaning.specs.Bytes.{is_among}
 use Rattle.html_meaning.specs.Page.{firsts}
-use Rattle.html_tree.specs.LaterNames.{names_in, as_read, AreLater}
-use Rattle.html_tree.proofs.FirstNames.{firsts_new, firsts_old, not_false, not_true}
+use Rattle.html_tree.specs.LaterNames.{names_in, as_read}
+use Rattle.html_tree.proofs.FirstNames.{firsts_new, not_true}
 use Rattle.html_tree.proofs.attributes.push_attr.Goals as goal
 
 pub returns-clause-attrs : goal.returns-clause-attrs

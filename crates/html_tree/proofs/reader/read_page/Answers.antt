@@ -1,4 +1,4 @@
-use Rattle.std.proofs.Common.{◌≡◌, ◌≤◌, ◌+◌, ◌-◌, ◌++◌, ◌∷◌, inl, refl, rules, Err, ℕ, List, Option, Some, None, length, take, arith, ap, sym, ◌∙◌, subst, option_map, MatchOption, IsOkUnless}
+use Rattle.std.proofs.Common.{◌≡◌, ◌≤◌, ◌-◌, ◌++◌, ◌∷◌, inl, refl, rules, Err, ℕ, Option, Some, None, length, take, ap, sym, ◌∙◌, subst, option_map, MatchOption, IsOkUnless}
 use Rattle.page_tree.specs.Forest.{Content, Tree, size}
 use Rattle.page_tree.specs.Fragments.{Limit, limit_passed}
 use Rattle.dom_arena.specs.Contents.{new_content}
@@ -6,11 +6,11 @@ use Rattle.dom_arena.specs.Refusals.{error_of as dom_error}
 use Rattle.html_meaning.specs.Tokens.{Token}
 use Rattle.html_meaning.specs.Page.{role_of, opened, content_of, fragment}
 use Rattle.html_tokens.specs.Seen.{token_of}
-use Rattle.html_tree.specs.Chain.{element_names, element_numbers, Leaves}
+use Rattle.html_tree.specs.Chain.{element_names, element_numbers}
 use Rattle.std.specs.Prelude.{slice_index}
 use Rattle.html_tree.specs.Limits.{page_error, error_of, next_limit, FailsWith}
 use Rattle.html_tree.specs.declared.reader.PageError.TheVariants.{NoMemory}
-use Rattle.html_tree.proofs.Grown.{Grown, grown_start, grown_none, grown_node, grown_refusal, grown_limit, grown_page, grown_within, content_ordinary, put_done, put_failed}
+use Rattle.html_tree.proofs.Grown.{Grown, grown_start, grown_none, grown_node, grown_depth, grown_few, grown_refusal, grown_limit, grown_page, grown_within, content_ordinary, put_done, put_failed}
 use Rattle.html_tree.proofs.PassedLimits.{fails, failed_so, error_given}
 use Rattle.html_tree.proofs.reader.read_page.Goals as goal
 
@@ -112,3 +112,34 @@ returns-in_err-keep_number-clause-answer c =
     let limit : Option Limit = limit_passed 0 0 (fragment c.args.source.now) in
     let result = error_given Tree c.from_residual-in_err-keep_number.result NoMemory c.from_residual-in_err-keep_number.ensures.1 in
     subst (λ r. MatchOption limit (IsOkUnless r NoMemory) (λ l. FailsWith r (page_error l))) (sym result) (fails Tree limit NoMemory (inl refl))
+
+pub overflow_cast-left : goal.overflow_cast-left
+overflow_cast-left c =
+    let t : Token = token_of c.in-Some.token in
+    let left = c.left_by-left.result in
+    let names = c.loop-token.chain in
+    let numbers = c.loop-token.numbers.items in
+    let old = c.loop-token.dom in
+    let source = c.args.source.now in
+    let made : Content = new_content c.in-Some-2.node in
+    let grown : Grown names numbers (t ∷ c.next.new.self) old source = subst (λ ts. Grown names numbers ts old source) c.in-Some.ensures c.loop-token.invariant in
+    let content : content_of t.piece ≡ Some made = sym c.in_ok-node.ensures ∙ ap (option_map new_content) c.in-Some-2.is in
+    let parent : c.innermost-parent.result ≡ slice_index (take left numbers) (length (take left numbers) - 1) =
+    c.innermost-parent.ensures ∙ ap (λ ns. slice_index ns (length ns - 1)) (c.as_slice.ensures.value ∙ c.truncate-in-Some.ensures.items) in
+    let few : left ≤ 1000000 = grown_few names numbers t c.next.new.self old source left c.innermost-parent.result made grown c.left_by-left.ensures.left c.left_by-left.ensures.within content parent in
+    search rules
+
+pub put-requires-clause-depth : goal.put-requires-clause-depth
+put-requires-clause-depth c =
+    let t : Token = token_of c.in-Some.token in
+    let left = c.left_by-left.result in
+    let names = c.loop-token.chain in
+    let numbers = c.loop-token.numbers.items in
+    let old = c.loop-token.dom in
+    let source = c.args.source.now in
+    let made : Content = new_content c.in-Some-2.node in
+    let grown : Grown names numbers (t ∷ c.next.new.self) old source = subst (λ ts. Grown names numbers ts old source) c.in-Some.ensures c.loop-token.invariant in
+    let content : content_of t.piece ≡ Some made = sym c.in_ok-node.ensures ∙ ap (option_map new_content) c.in-Some-2.is in
+    let parent : c.innermost-parent.result ≡ slice_index (take left numbers) (length (take left numbers) - 1) =
+    c.innermost-parent.ensures ∙ ap (λ ns. slice_index ns (length ns - 1)) (c.as_slice.ensures.value ∙ c.truncate-in-Some.ensures.items) in
+    grown_depth names numbers t c.next.new.self old source left c.innermost-parent.result made grown c.left_by-left.ensures.left c.left_by-left.ensures.within content parent

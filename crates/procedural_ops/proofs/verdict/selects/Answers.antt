@@ -1,10 +1,10 @@
-use Rattle.std.proofs.Common.{◌≡◌, ◌+◌, List, ap, sym, ◌∙◌, take, length}
-use Rattle.std.specs.List.{list_all}
+use Rattle.std.proofs.Common.{◌≡◌, ◌+◌, List, refl, ap, sym, ◌∙◌, take, length, arith}
 use Rattle.page_tree.specs.Standings.{all}
 use Rattle.page_tree.specs.Directions.{is_in}
 use Rattle.selector_tree.specs.declared.selector.Step.{Step}
-use Rattle.procedural_ops.specs.Count.{is_plain_step, many_asked, simple_tests}
+use Rattle.procedural_ops.specs.Noted.{chain_tests, simple_tests}
 use Rattle.procedural_ops.specs.Reaching.{reached, is_selected}
+use Rattle.procedural_ops.proofs.Parts as parts
 use Rattle.procedural_ops.proofs.Simple as simple
 use Rattle.procedural_ops.proofs.Steps as steps
 use Rattle.procedural_ops.proofs.Walking as walking
@@ -27,37 +27,42 @@ returns-clause-answer g c =
     sym (steps.any_end (λ d. is_in (reached c.args.dom.now c.args.path.now d) c.args.x) c.args.selector.now c.loop-chain.chain-index c.loop-chain.invariant.none c.loop-chain-test.false)
 
 pub returns-in_err-chain_selects-clause-asked : goal.returns-in_err-chain_selects-clause-asked
-returns-in_err-chain_selects-clause-asked g c = λ plain.
-    let m = simple.simple_more c.args.selector.now c.loop-chain.chain-index c.chain-item.result c.loop-chain-test.true c.chain-item.is plain in
-    let now = c.chain_selects.ensures.asked (ap (list_all is_plain_step) c.as_slice.ensures ∙ m.1) in
-    let one : simple_tests (take (c.loop-chain.chain-index + 1) c.args.selector.now) ≡ simple_tests (take c.loop-chain.chain-index c.args.selector.now) + many_asked c.as_slice.result.now =
-    m.0 ∙ ap (λ (s : List Step). simple_tests (take c.loop-chain.chain-index c.args.selector.now) + many_asked s) (sym c.as_slice.ensures) in
-    let p = simple.product_more (simple_tests (take c.loop-chain.chain-index c.args.selector.now)) (many_asked c.as_slice.result.now) (simple_tests (take (c.loop-chain.chain-index + 1) c.args.selector.now))
-    (length (all c.args.dom.now)) c.args.parts.now c.loop-chain.parts c.chain_selects.new.parts (c.loop-chain.invariant.asked plain) now one in
+returns-in_err-chain_selects-clause-asked g c =
+    let m = parts.more_tests c.args.selector.now c.loop-chain.chain-index c.chain-item.result c.loop-chain-test.true c.chain-item.is in
+    let one : simple_tests (take (c.loop-chain.chain-index + 1) c.args.selector.now) ≡ simple_tests (take c.loop-chain.chain-index c.args.selector.now) + length (chain_tests c.as_slice.result.now) =
+    m ∙ ap (λ (s : List Step). simple_tests (take c.loop-chain.chain-index c.args.selector.now) + length (chain_tests s)) (sym c.as_slice.ensures) in
+    let p = simple.product_more (simple_tests (take c.loop-chain.chain-index c.args.selector.now)) (length (chain_tests c.as_slice.result.now)) (simple_tests (take (c.loop-chain.chain-index + 1) c.args.selector.now))
+    (length (all c.args.dom.now)) c.args.parts.now c.loop-chain.parts c.chain_selects.new.parts c.loop-chain.invariant.asked c.chain_selects.ensures.asked one in
     simple.product_few (simple_tests (take (c.loop-chain.chain-index + 1) c.args.selector.now)) (simple_tests c.args.selector.now) (length (all c.args.dom.now)) c.args.parts.now c.chain_selects.new.parts p
-    (simple.simple_few c.args.selector.now (c.loop-chain.chain-index + 1))
+    (parts.few_tests c.args.selector.now (c.loop-chain.chain-index + 1))
 
 pub returns-then-branch-clause-asked : goal.returns-then-branch-clause-asked
-returns-then-branch-clause-asked g c = λ plain.
-    let m = simple.simple_more c.args.selector.now c.loop-chain.chain-index c.chain-item.result c.loop-chain-test.true c.chain-item.is plain in
-    let now = c.chain_selects.ensures.asked (ap (list_all is_plain_step) c.as_slice.ensures ∙ m.1) in
-    let one : simple_tests (take (c.loop-chain.chain-index + 1) c.args.selector.now) ≡ simple_tests (take c.loop-chain.chain-index c.args.selector.now) + many_asked c.as_slice.result.now =
-    m.0 ∙ ap (λ (s : List Step). simple_tests (take c.loop-chain.chain-index c.args.selector.now) + many_asked s) (sym c.as_slice.ensures) in
-    let p = simple.product_more (simple_tests (take c.loop-chain.chain-index c.args.selector.now)) (many_asked c.as_slice.result.now) (simple_tests (take (c.loop-chain.chain-index + 1) c.args.selector.now))
-    (length (all c.args.dom.now)) c.args.parts.now c.loop-chain.parts c.chain_selects.new.parts (c.loop-chain.invariant.asked plain) now one in
+returns-then-branch-clause-asked g c =
+    let m = parts.more_tests c.args.selector.now c.loop-chain.chain-index c.chain-item.result c.loop-chain-test.true c.chain-item.is in
+    let one : simple_tests (take (c.loop-chain.chain-index + 1) c.args.selector.now) ≡ simple_tests (take c.loop-chain.chain-index c.args.selector.now) + length (chain_tests c.as_slice.result.now) =
+    m ∙ ap (λ (s : List Step). simple_tests (take c.loop-chain.chain-index c.args.selector.now) + length (chain_tests s)) (sym c.as_slice.ensures) in
+    let p = simple.product_more (simple_tests (take c.loop-chain.chain-index c.args.selector.now)) (length (chain_tests c.as_slice.result.now)) (simple_tests (take (c.loop-chain.chain-index + 1) c.args.selector.now))
+    (length (all c.args.dom.now)) c.args.parts.now c.loop-chain.parts c.chain_selects.new.parts c.loop-chain.invariant.asked c.chain_selects.ensures.asked one in
     simple.product_few (simple_tests (take (c.loop-chain.chain-index + 1) c.args.selector.now)) (simple_tests c.args.selector.now) (length (all c.args.dom.now)) c.args.parts.now c.chain_selects.new.parts p
-    (simple.simple_few c.args.selector.now (c.loop-chain.chain-index + 1))
+    (parts.few_tests c.args.selector.now (c.loop-chain.chain-index + 1))
+
+pub returns-clause-asked : goal.returns-clause-asked
+returns-clause-asked g c =
+    simple.product_few (simple_tests (take c.loop-chain.chain-index c.args.selector.now)) (simple_tests c.args.selector.now) (length (all c.args.dom.now)) c.args.parts.now c.loop-chain.parts c.loop-chain.invariant.asked
+    (parts.few_tests c.args.selector.now c.loop-chain.chain-index)
+
+pub loop-chain-init : goal.loop-chain-init
+loop-chain-init g c = record { none = refl; asked = omega (arith, parts.none_in_selector c.args.selector.now) }
 
 pub loop-chain-preserved : goal.loop-chain-preserved
 loop-chain-preserved g c = record {
   none = walking.any_more (λ d. is_in (reached c.args.dom.now c.args.path.now d) c.args.x) c.args.selector.now c.loop-chain.chain-index c.chain-item.result c.loop-chain-test.true c.chain-item.is c.loop-chain.invariant.none
       (ap (λ (d : List Step). is_in (reached c.args.dom.now c.args.path.now d) c.args.x) (sym c.as_slice.ensures) ∙ sym c.in_ok-chain_selects.ensures.answer ∙ c.if-branch.false);
-  asked = λ plain.
-      let m = simple.simple_more c.args.selector.now c.loop-chain.chain-index c.chain-item.result c.loop-chain-test.true c.chain-item.is plain in
-      let now = c.chain_selects.ensures.asked (ap (list_all is_plain_step) c.as_slice.ensures ∙ m.1) in
-      let one : simple_tests (take (c.loop-chain.chain-index + 1) c.args.selector.now) ≡ simple_tests (take c.loop-chain.chain-index c.args.selector.now) + many_asked c.as_slice.result.now =
-      m.0 ∙ ap (λ (s : List Step). simple_tests (take c.loop-chain.chain-index c.args.selector.now) + many_asked s) (sym c.as_slice.ensures) in
-      let p = simple.product_more (simple_tests (take c.loop-chain.chain-index c.args.selector.now)) (many_asked c.as_slice.result.now) (simple_tests (take (c.loop-chain.chain-index + 1) c.args.selector.now))
-      (length (all c.args.dom.now)) c.args.parts.now c.loop-chain.parts c.chain_selects.new.parts (c.loop-chain.invariant.asked plain) now one in
+  asked =
+      let m = parts.more_tests c.args.selector.now c.loop-chain.chain-index c.chain-item.result c.loop-chain-test.true c.chain-item.is in
+      let one : simple_tests (take (c.loop-chain.chain-index + 1) c.args.selector.now) ≡ simple_tests (take c.loop-chain.chain-index c.args.selector.now) + length (chain_tests c.as_slice.result.now) =
+      m ∙ ap (λ (s : List Step). simple_tests (take c.loop-chain.chain-index c.args.selector.now) + length (chain_tests s)) (sym c.as_slice.ensures) in
+      let p = simple.product_more (simple_tests (take c.loop-chain.chain-index c.args.selector.now)) (length (chain_tests c.as_slice.result.now)) (simple_tests (take (c.loop-chain.chain-index + 1) c.args.selector.now))
+      (length (all c.args.dom.now)) c.args.parts.now c.loop-chain.parts c.chain_selects.new.parts c.loop-chain.invariant.asked c.chain_selects.ensures.asked one in
       p;
 }

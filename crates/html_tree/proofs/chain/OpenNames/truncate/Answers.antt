@@ -1,5 +1,5 @@
-use Rattle.std.proofs.Common.{◌-◌, ap, ◌∙◌, take, length, arith}
-use Rattle.html_tree.proofs.Sums.{take_enough, pop_take}
+use Rattle.std.proofs.Common.{◌∙◌, arith}
+use Rattle.html_tree.proofs.Counts.{take_enough, pop_take}
 use Rattle.html_tree.proofs.chain.OpenNames.truncate.Goals as goal
 
 pub loop-left-preserved : goal.loop-left-preserved

@@ -1,0 +1,20 @@
+use Rattle.std.proofs.Common.{◌≡◌, ◌∙◌, ◌||◌, ◌&&◌, ℕ, List, true, sym, ap}
+use Rattle.page_tree.specs.Standings.{all}
+use Rattle.page_tree.specs.Directions.{is_in}
+use Rattle.procedural_ops.specs.Walks.{elements_behind, order}
+use Rattle.procedural_ops.proofs.Walking.{from_one, from_found, all_behind, some_of}
+use Rattle.generic_tables.specs.Keys.{carries}
+use Rattle.generic_tables.proofs.tables.Tables.of.Goals as goal
+
+pub elements-init : goal.elements-init
+elements-init c =
+    let t = c.args.dom.now in
+    let first : from_one (elements_behind t (order t)) c.next_element-at.result ≡ all t =
+    sym (from_found (elements_behind t (order t)) (elements_behind t (order t) 0) c.next_element-at.result c.next_element-at.ensures.first) ∙ all_behind t c.is_tree.ensures in
+    record {
+      all = λ k x.
+          ap (λ b. b || (is_in (from_one (elements_behind t (order t)) c.next_element-at.result) x && carries t k x)) (c.new-filed.ensures k x)
+          ∙ ap (λ (xs : List ℕ). is_in xs x && carries t k x) first;
+      element = λ m e. some_of (λ n. is_in (all t) n ≡ true) c.next_element-at.result m c.next_element-at.ensures.element e;
+      there = λ m e. some_of (λ n. is_in (order t) n ≡ true) c.next_element-at.result m c.next_element-at.ensures.there e;
+    }

@@ -1,0 +1,17 @@
+use Rattle.std.proofs.Common.{◌≡◌, ◌==◌, ◌&&◌, not, ℕ, length}
+use Rattle.std.specs.List.{list_any}
+use Rattle.generic_tables.specs.declared.keys.Key.{Key}
+use Rattle.generic_tables.specs.Keys.{carries}
+use Rattle.generic_tables.specs.Carried.{same_key}
+use Rattle.generic_tables.specs.KeysLeft.{keys_left}
+use Rattle.generic_tables.specs.Filed.{holds}
+use Rattle.generic_tables.proofs.tables.take_out.Given as goal
+
+-- without the keys that are left, the element stands nowhere
+abbrev pub invariant-all : goal.invariant-all
+invariant-all l =
+    (k : Key) (x : ℕ) →
+    (holds l.filed k x && not ((x == l.n) && list_any (same_key k) (keys_left l.keys))) ≡ (holds l.initial.filed k x && not ((x == l.n) && carries l.dom k l.n))
+
+abbrev pub decreases-all : goal.decreases-all
+decreases-all l = length (keys_left l.keys)

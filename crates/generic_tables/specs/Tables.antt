@@ -1,0 +1,36 @@
+-- The elements that stand under keys, and the filters.
+use Rattle.std.specs.Prelude.{◌≡◌, ℕ, Bool, false, List}
+use Rattle.page_tree.specs.Forest.{Tree}
+use Rattle.generic_tables.specs.declared.keys.Key.{Key}
+use Rattle.generic_tables.specs.declared.tables.Tables.{Tables}
+use Rattle.generic_tables.specs.declared.filters.FilterTable.{FilterTable}
+use Rattle.generic_tables.specs.Keys.{carries}
+use Rattle.generic_tables.specs.Filed.{holders, holds}
+
+-- the elements under a key
+abbrev pub elements_under : Tables → Key → List ℕ
+elements_under tables k = holders tables.filed k
+
+-- whether an element stands under a key
+abbrev pub stands_under : Tables → Key → ℕ → Bool
+stands_under tables k x = holds tables.filed k x
+
+-- the element stands under no key
+abbrev pub IsAbsent : Tables → ℕ → Type 0
+IsAbsent tables x = (k : Key) → stands_under tables k x ≡ false
+
+-- the element stands under the keys that it carries in this tree, and no others
+abbrev pub IsAsIn : Tree → Tables → ℕ → Type 0
+IsAsIn t tables x = (k : Key) → stands_under tables k x ≡ carries t k x
+
+-- under each key stand the elements that stood there
+abbrev pub HasSame : Tables → Tables → Type 0
+HasSame old new = (k : Key) (x : ℕ) → stands_under new k x ≡ stands_under old k x
+
+-- the filters under a key
+abbrev pub filters_under : FilterTable → Key → List ℕ
+filters_under table k = holders table.filed k
+
+-- whether a filter stands under a key
+abbrev pub is_filed : FilterTable → Key → ℕ → Bool
+is_filed table k f = holds table.filed k f

@@ -1,0 +1,6 @@
+mod Examples
+pub mod Entering
+pub mod Finding
+pub mod Walking
+pub mod Laws
+pub mod Whole

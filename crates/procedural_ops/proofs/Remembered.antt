@@ -1,0 +1,157 @@
+-- What is remembered, and how much is still to be asked.
+use Rattle.std.proofs.Common.{◌≡◌, ℕ, zero, suc, ◌+◌, ◌*◌, ◌<◌, ◌≤◌, Bool, true, false, ◌&&◌, ◌==◌, nat_eq, not, cond, List, [], ◌∷◌, ◌++◌, length, get_or, Option, Some, None, refl, sym, ap, ◌∙◌, length-append, ◌-◌, ◌⊎◌, inl, inr, arith}
+use Rattle.std.specs.Option.{is_some}
+use Rattle.std.proofs.lemmas.Bool.{both_ways, and_parts, and_from, eqb-true, eq-eqb}
+use Rattle.std.specs.Map.{lookup}
+use Rattle.std.proofs.Math.ListN.{replicate, length-replicate}
+use Rattle.selector_tree.specs.declared.selector.Step.{Step}
+use Rattle.selector_tree.specs.declared.selector.Test.{Test}
+use Rattle.page_tree.specs.Forest.{Tree}
+use Rattle.page_tree.specs.Standings.{all}
+use Rattle.page_tree.specs.Directions.{is_in}
+use Rattle.cos_patterns.specs.Found.{pattern_found}
+use Rattle.selector_meaning.specs.Texts.{Bytes}
+use Rattle.selector_meaning.specs.Meaning.{holds}
+use Rattle.procedural_ops.specs.Noted.{chain_tests, IsPart, answer_at, Notes, missing, unknown, IsRight}
+use Rattle.procedural_ops.proofs.Counts.{passing_le, passing_less, passing_few}
+
+-- ---- a test at its place
+
+get_behind : (before behind : List Test) (q : Test) → q ≡ get_or (before ++ (q ∷ behind)) (length before) q
+get_behind [] behind q = refl
+get_behind (r ∷ before) behind q = get_behind before behind q
+
+pub at_place : (tests : List Test) (k : ℕ) (q : Test) → IsPart tests k (q ∷ []) → (k < length tests) × (q ≡ get_or tests k q)
+at_place tests k q p = (
+  omega (arith, ap (λ (l : List Test). length l) p.is, length-append p.before (q ∷ p.behind), p.long),
+  get_behind p.before p.behind q ∙ ap (λ (l : List Test). get_or l (length p.before) q) (sym p.is) ∙ ap (λ (n : ℕ). get_or tests n q) p.long,
+)
+
+-- ---- missing answers
+
+at_or_below : (k n : ℕ) → k < suc n → (k ≡ n) ⊎ (k < n)
+at_or_below k n h = elim (zero_or (n - k)) [ inl z ↦ inl (omega (arith, h, z)) | inr m ↦ inr (omega (arith, m)) ]
+  where
+    zero_or : (a : ℕ) → (a ≡ 0) ⊎ (0 < a)
+    zero_or zero = inl refl
+    zero_or (suc a) = inr (omega arith)
+
+module _ (f g : ℕ → ℕ → Option Bool) (elements : List ℕ) (more : (k z : ℕ) → not (is_some (g k z)) ≡ true → not (is_some (f k z)) ≡ true) where
+  missing_le : (n : ℕ) → missing g elements n ≤ missing f elements n
+  missing_le zero = omega arith
+  missing_le (suc n) = omega (arith, passing_le (λ z. not (is_some (g n z))) (λ z. not (is_some (f n z))) (more n) elements, missing_le n)
+
+  missing_less : (n k x : ℕ) → k < n → is_in elements x ≡ true → not (is_some (g k x)) ≡ false → not (is_some (f k x)) ≡ true → missing g elements n + 1 ≤ missing f elements n
+  missing_less zero k x h there after before = absurd (omega (arith, h))
+  missing_less (suc n) k x h there after before =
+      elim (at_or_below k n h) [
+        | inl e ↦
+            omega (
+              arith,
+              passing_less (λ z. not (is_some (g n z))) (λ z. not (is_some (f n z))) (more n) elements x there
+                  (ap (λ (m : ℕ). not (is_some (g m x))) (sym e) ∙ after) (ap (λ (m : ℕ). not (is_some (f m x))) (sym e) ∙ before),
+              missing_le n,
+            )
+        | inr l ↦
+            omega (
+              arith,
+              passing_le (λ z. not (is_some (g n z))) (λ z. not (is_some (f n z))) (more n) elements,
+              missing_less n k x l there after before,
+            )
+      ]
+
+missing_few : (f : ℕ → ℕ → Option Bool) (elements : List ℕ) (n : ℕ) → missing f elements n ≤ n * length elements
+missing_few f elements zero = omega arith
+missing_few f elements (suc n) =
+    let e : suc n * length elements ≡ length elements + n * length elements = grind arith in
+    omega (arith, e, passing_few (λ z. not (is_some (f n z))) elements, missing_few f elements n)
+
+-- ---- one answer more
+
+any_default : (l : List Test) (i : ℕ) (d e : Test) → i < length l → get_or l i d ≡ get_or l i e
+any_default [] i d e h = absurd (omega (arith, h))
+any_default (x ∷ l) zero d e h = refl
+any_default (x ∷ l) (suc i) d e h = any_default l i d e (omega (arith, h))
+
+-- what is remembered at one place
+both_are : (k j x z : ℕ) → ((k == j) && (x == z)) ≡ true → (k ≡ j) × (x ≡ z)
+both_are k j x z h = let p = and_parts (k == j) (x == z) h in (eqb-true k j p.0, eqb-true x z p.1)
+
+module _ (old new : List (List (ℕ × Bool))) (k x : ℕ) (b : Bool) (h : Notes old new k x b) where
+  now : answer_at new k x ≡ Some b
+  now = h.answers k x ∙ ap (λ (v : Bool). cond v (Some b) (answer_at old k x)) (and_from (k == k) (x == x) (eq-eqb k k refl) (eq-eqb x x refl))
+
+  on : (j z : ℕ) → not (is_some (answer_at new j z)) ≡ true → not (is_some (answer_at old j z)) ≡ true
+  on j z none = pick ((k == j) && (x == z)) (ap (λ (o : Option Bool). not (is_some o)) (sym (h.answers j z)) ∙ none)
+    where
+      pick : (v : Bool) → not (is_some (cond v (Some b) (answer_at old j z))) ≡ true → not (is_some (answer_at old j z)) ≡ true
+      pick true e = absurd (both_ways false refl e)
+      pick false e = e
+
+  module _ (t : Tree) (steps : List Step) where
+    -- it isn't missing any more
+    pub fewer_unknown : k < length (chain_tests steps) → is_in (all t) x ≡ true → answer_at old k x ≡ None → unknown t steps new + 1 ≤ unknown t steps old
+    unfolding unknown
+    fewer_unknown within there none =
+        missing_less (answer_at old) (answer_at new) (all t) on (length (chain_tests steps)) k x within there (ap (λ (o : Option Bool). not (is_some o)) now) (ap (λ (o : Option Bool). not (is_some o)) none)
+
+    pub no_more_unknown : unknown t steps new ≤ unknown t steps old
+    unfolding unknown
+    no_more_unknown = missing_le (answer_at old) (answer_at new) (all t) on (length (chain_tests steps))
+
+    module _ (path : Bytes) (q : Test) (at : q ≡ get_or (chain_tests steps) k q) where
+      -- what was right stays so, where the answer is right
+      pub right_more : IsRight t steps old path → b ≡ holds pattern_found t path q x → IsRight t steps new path
+      right_more right is = record {
+        long = h.long ∙ right.long;
+        right = λ j z d r within place found. by j z d r ((k == j) && (x == z)) refl (sym (h.answers j z) ∙ found) within place;
+      }
+        where
+          by : (j z : ℕ) (d : Bool) (r : Test) (v : Bool) → ((k == j) && (x == z)) ≡ v → cond v (Some b) (answer_at old j z) ≡ Some d →
+              j < length new → r ≡ get_or (chain_tests steps) j r → d ≡ holds pattern_found t path r z
+          by j z d r true e found within place =
+              let same = both_are k j x z e in
+              let there : j < length (chain_tests steps) = omega (arith, within, h.long, right.long) in
+              let one : r ≡ q = place ∙ any_default (chain_tests steps) j r q there ∙ ap (λ (n : ℕ). get_or (chain_tests steps) n q) (sym same.0) ∙ sym at in
+              let answer : b ≡ d = cc in
+              sym answer ∙ is ∙ ap (λ (v : Test). holds pattern_found t path v x) (sym one) ∙ ap (holds pattern_found t path r) same.1
+          by j z d r false e found within place = right.right j z d r (omega (arith, within, h.long)) place found
+
+-- an answer over another
+over_both : (b d : Bool) (v : Bool) (o : Option Bool) → cond v (Some d) (cond v (Some b) o) ≡ cond v (Some d) o
+over_both b d true o = refl
+over_both b d false o = refl
+
+pub over : (old mid new : List (List (ℕ × Bool))) (k x : ℕ) (b d : Bool) → Notes old mid k x b → Notes mid new k x d → Notes old new k x d
+over old mid new k x b d one two = record {
+  long = two.long ∙ one.long;
+  answers = λ j z. two.answers j z ∙ ap (cond ((k == j) && (x == z)) (Some d)) (one.answers j z) ∙ over_both b d ((k == j) && (x == z)) (answer_at old j z);
+}
+
+-- ---- no answers
+
+-- so many columns without answers
+abbrev pub blanks : ℕ → List (List (ℕ × Bool))
+blanks many = replicate many []
+
+nothing_at : (many k : ℕ) → get_or (blanks many) k [] ≡ []
+nothing_at zero k = refl
+nothing_at (suc many) zero = refl
+nothing_at (suc many) (suc k) = nothing_at many k
+
+pub one_blank : (many : ℕ) → blanks many ++ ([] ∷ []) ≡ blanks (suc many)
+one_blank zero = refl
+one_blank (suc many) = ap (λ (l : List (List (ℕ × Bool))). [] ∷ l) (one_blank many)
+
+pub none_right : (t : Tree) (steps : List Step) (path : Bytes) (many : ℕ) → many ≡ length (chain_tests steps) → IsRight t steps (replicate many []) path
+none_right t steps path many e = record {
+  long = length-replicate many [] ∙ e;
+  right = λ k x b q within place found.
+      let none : answer_at (replicate many []) k x ≡ None = ap (lookup (nat_eq x)) (nothing_at many k) in
+      let no : None ≡ Some b = sym none ∙ found in
+      cc;
+}
+
+pub few_unknown : (t : Tree) (steps : List Step) (notes : List (List (ℕ × Bool))) → unknown t steps notes ≤ length (chain_tests steps) * length (all t)
+unfolding unknown
+few_unknown t steps notes = missing_few (answer_at notes) (all t) (length (chain_tests steps))

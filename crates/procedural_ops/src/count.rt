@@ -1,0 +1,54 @@
+//! Where the notes of the tests in a chain stand: in text order, whatever depth they stand at.
+ghost use Rattle.std.specs.Prelude.{◌≡◌, ◌+◌, length, IfOk};
+ghost use Rattle.procedural_ops.specs.Noted.{chain_tests, selector_tests, step_tests, test_tests};
+
+use selector_tree::{Chain, Step, Test};
+use std::alloc::AllocError;
+
+/// The place behind those of some steps, the first of which is given. There are never more than a number can say: such a chain
+/// wouldn't fit in memory.
+#[cycle(count)]
+pub(crate) fn behind(first: usize, steps: &[Step]) -> Result<usize, AllocError>
+    ensures { IfOk result (λ place. place ≡ first + length (chain_tests steps.now)) }
+{
+    let mut place = first;
+    for step in steps {
+        place = behind_step(place, step)?;
+    }
+    Ok(place)
+}
+
+/// The place behind those of one step.
+#[cycle(count)]
+pub(crate) fn behind_step(first: usize, step: &Step) -> Result<usize, AllocError>
+    ensures { IfOk result (λ place. place ≡ first + length (step_tests step.now)) }
+{
+    match step {
+        Step::Keep(test) => behind_test(first, test),
+        Step::UpwardTo(selector) => behind_selector(first, selector.get().as_slice()),
+        _ => Ok(first),
+    }
+}
+
+#[cycle(count)]
+fn behind_test(first: usize, test: &Test) -> Result<usize, AllocError>
+    ensures { IfOk result (λ place. place ≡ first + length (test_tests test.now)) }
+{
+    match test {
+        Test::Is(selector) => behind_selector(first, selector.get().as_slice()),
+        Test::Not(selector) => behind_selector(first, selector.get().as_slice()),
+        Test::Has(selector) => behind_selector(first, selector.get().as_slice()),
+        _ => first.checked_add(1).ok_or(AllocError),
+    }
+}
+
+#[cycle(count)]
+fn behind_selector(first: usize, selector: &[Chain]) -> Result<usize, AllocError>
+    ensures { IfOk result (λ place. place ≡ first + length (selector_tests selector.now)) }
+{
+    let mut place = first;
+    for chain in selector {
+        place = behind(place, chain.as_slice())?;
+    }
+    Ok(place)
+}
