@@ -1,0 +1,5 @@
+mod Example
+pub mod Cuts
+pub mod Outermost
+pub mod Fewer
+pub mod Settling

@@ -1,0 +1,4 @@
+pub mod Filters
+pub mod Hidden
+pub mod Rounds
+pub mod States

@@ -1,0 +1,6 @@
+mod Asked
+mod Places
+mod Hiding
+mod Taking
+mod Names
+mod Events

@@ -1,0 +1,186 @@
+ghost use Rattle.std.specs.Prelude.{◌≡◌, ◌+◌, ◌≤◌, [], map, IfOk, IsErr};
+ghost use Rattle.cos_patterns.specs.Found.{pattern_found};
+ghost use Rattle.engine_meaning.specs.Filters.{AreAskable};
+ghost use Rattle.engine_meaning.specs.Hidden.{pair_of};
+ghost use Rattle.engine_meaning.specs.States.{mutated, hidden_of, rounded, round_of};
+ghost use Rattle.mutation_script.specs.Changes.{change, outcome_of};
+ghost use Rattle.mutation_script.specs.Inserted.{inserted};
+ghost use Rattle.hide_engine.specs.Exact.{AreExact};
+
+use crate::asking::{Pending, retest};
+use crate::filter_set::FilterSet;
+use crate::removing::{take_out_all, taken_rows};
+use crate::rows::hidden_rows;
+use cos_outside::Steps;
+use cos_patterns::PatternTable;
+use dom_arena::Dom;
+use kept_marks::Marks;
+use mutation_script::{Mutation, Outcome, PageState};
+use selector_tree::{Active, Rows, TakenList};
+use std::alloc::{AllocError, Global};
+use std::marker::Model;
+use std::sync::ledger::Ledger;
+
+/// A page with the filters that are used on it, which knows which of them select which elements.
+///
+/// A call that answers an error has used the engine up.
+#[derive(Drop)]
+pub struct Engine {
+    page: PageState,
+    filters: FilterSet,
+    marks: Marks,
+}
+
+impl Model for Engine {
+    ghost use Rattle.std.specs.Coded.{codes};
+    ghost use Rattle.page_tree.specs.ForestCode.{forest_code};
+    ghost use Rattle.selector_tree.specs.contracts.selector.Step as step;
+    ghost use Rattle.engine_meaning.specs.States.{State};
+
+    ghost Value = { State };
+
+    ghost coded = { Prim.hlevel (codes, forest_code, step.the_row.coded) };
+
+    ghost use Rattle.hide_engine.specs.Exact.{IsKept};
+
+    ghost view = { λ engine. record { page = engine.page; filters = engine.filters.active } };
+
+    ghost invariant = { λ engine.
+        IsKept (record { page = engine.page; filters = engine.filters.active }) engine.filters.table.patterns engine.marks };
+}
+
+impl Engine {
+    /// An engine for a page and its filters, whose patterns the table has. Each question whether a filter selects an element
+    /// counts as one of the `checks`, and each single test that is asked for it as one of the `parts`; so in each call.
+    pub fn start<L: Ledger, P: Ledger>(
+        alloc: Global,
+        page: PageState,
+        table: PatternTable,
+        active: Active,
+        checks: &mut Steps<L>,
+        parts: &mut Steps<P>,
+    ) -> Result<Engine, AllocError>
+        requires { AreAskable table.patterns active }
+        ensures { IfOk result (λ engine. engine ≡ record { page = page; filters = active }) }
+    {
+        let filters = FilterSet { table, active };
+        let mut pending = Pending::new();
+        pending.note();
+        let marks = retest(
+            alloc,
+            &page,
+            &filters,
+            &pending,
+            Marks::new(alloc),
+            checks,
+            parts,
+        )?;
+        Ok(Engine {
+            page,
+            filters,
+            marks,
+        })
+    }
+
+    /// Makes the change that a mutation asks for, or answers its first refusal, after which the engine stands for the same
+    /// page. The HTML of an insert gives no more numbers than it has bytes.
+    pub fn apply<L: Ledger, P: Ledger>(
+        self,
+        alloc: Global,
+        mutation: Mutation,
+        checks: &mut Steps<L>,
+        parts: &mut Steps<P>,
+    ) -> Result<(Engine, Outcome), AllocError>
+        requires { self.page.tree.next + inserted mutation ≤ 4294967295 }
+        ensures engine { IfOk result (λ done. done.0 ≡ mutated mutation self) }
+        ensures outcome { IfOk result (λ done. done.1 ≡ outcome_of (change mutation self.page)) }
+        ensures refused { IsErr (change mutation self.page) → checks.new ≡ checks.old }
+    {
+        let Engine {
+            mut page,
+            filters,
+            marks,
+        } = self;
+        let mut pending = Pending::new();
+        let outcome = page.apply(alloc, mutation)?;
+        match outcome {
+            Outcome::Done => pending.note(),
+            Outcome::Refused(_) => {}
+        }
+        let marks = retest(alloc, &page, &filters, &pending, marks, checks, parts)?;
+        Ok((
+            Engine {
+                page,
+                filters,
+                marks,
+            },
+            outcome,
+        ))
+    }
+
+    /// Takes all elements that some filter removes out of the page, and answers the outermost of them, as taken in round 1.
+    /// Where there are none, the page stays as it is.
+    pub fn take_round<L: Ledger, P: Ledger>(
+        self,
+        alloc: Global,
+        checks: &mut Steps<L>,
+        parts: &mut Steps<P>,
+    ) -> Result<(Engine, TakenList), AllocError>
+        ensures engine { IfOk result (λ done. done.0 ≡ rounded pattern_found self) }
+        ensures taken { IfOk result (λ done. done.1 ≡ round_of pattern_found self) }
+        ensures quiet { round_of pattern_found self ≡ [] → checks.new ≡ checks.old }
+    {
+        let rows = taken_rows(alloc, &self.page, &self.filters.active, &self.marks)?;
+        let Engine {
+            mut page,
+            filters,
+            marks,
+        } = self;
+        page.tree.is_tree();
+        let pending = take_out_all(&mut page, rows.as_slice());
+        let marks = retest(alloc, &page, &filters, &pending, marks, checks, parts)?;
+        Ok((
+            Engine {
+                page,
+                filters,
+                marks,
+            },
+            rows,
+        ))
+    }
+
+    /// The nodes of the page. It takes no memory.
+    pub fn dom(&self) -> &Dom
+        ensures { result.now ≡ self.now.page.tree }
+    {
+        &self.page.tree
+    }
+
+    /// The path of the page's address. It takes no memory.
+    pub fn path(&self) -> &str
+        ensures { result.now ≡ self.now.page.path }
+    {
+        self.page.path.as_str()
+    }
+
+    /// The filters, in order. It takes no memory.
+    pub fn active(&self) -> &Active
+        ensures { result.now ≡ self.now.filters }
+    {
+        &self.filters.active
+    }
+
+    /// The pairs of a filter, whatever its action, and an element of the page that it selects. It takes no memory.
+    pub fn marks(&self) -> &Marks
+        ensures { AreExact self.now result.now }
+    {
+        &self.marks
+    }
+
+    /// The hidden elements in document order, each with the places of all filters that hide it.
+    pub fn hidden(&self, alloc: Global) -> Result<Rows, AllocError>
+        ensures { IfOk result (λ rows. map pair_of rows ≡ hidden_of pattern_found self.now) }
+    {
+        hidden_rows(alloc, &self.page, &self.filters.active, &self.marks)
+    }
+}

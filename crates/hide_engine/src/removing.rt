@@ -1,0 +1,136 @@
+// A round: what the filters that remove take out of a page.
+ghost use Rattle.std.specs.Prelude.{◌≡◌, ◌<◌, [], ◌++◌, true, false, length, map, nat_lt, IfOk, OnOk, OnErr};
+ghost use Rattle.std.specs.List.{list_any};
+ghost use Rattle.cos_patterns.specs.Found.{pattern_found};
+ghost use Rattle.page_tree.specs.Edits.{detached};
+ghost use Rattle.page_tree.specs.Standings.{name};
+ghost use Rattle.selector_match.specs.Asked.{IsElement};
+ghost use Rattle.selector_meaning.specs.Hidden.{with_row};
+ghost use Rattle.engine_meaning.specs.Rounds.{is_outermost, taken_in, without_each};
+ghost use Rattle.hide_engine.specs.Exact.{AreExact};
+ghost use Rattle.hide_engine.specs.Chosen.{acts_at};
+ghost use Rattle.hide_engine.specs.Removing.{taken_rows};
+ghost use Rattle.selector_tree.specs.declared.filter.Action.TheVariants.{Remove};
+
+use crate::asking::Pending;
+use crate::rows::{acts_at, chosen};
+use dom_arena::Dom;
+use kept_marks::Marks;
+use listed::{Numbers, Text};
+use mutation_script::PageState;
+use procedural_ops::next_element;
+use selector_match::parent;
+use selector_tree::{Action, Active, Taken, TakenList};
+use std::alloc::{AllocError, Global};
+
+/// The outermost of the elements that some filter removes, in document order, as taken in round 1.
+pub(crate) fn taken_rows(
+    alloc: Global,
+    page: &PageState,
+    active: &Active,
+    marks: &Marks,
+) -> Result<TakenList, AllocError>
+    requires { AreExact (record { page = page.now; filters = active.now }) marks.now }
+    ensures { IfOk result (λ rows. rows ≡ taken_in pattern_found active.now page.now.path page.now.tree 1) }
+{
+    let dom = &page.tree;
+    dom.is_tree();
+    let mut rows = TakenList::new(alloc);
+    let mut at = next_element(dom, 0);
+    'elements: while let Some(x) = at {
+        let places = chosen(alloc, active, marks.of(x), Action::Remove)?;
+        push_row(alloc, &mut rows, page, active, marks, x, places)?;
+        at = next_element(dom, x);
+    }
+    Ok(rows)
+}
+
+// Adds the row of an element, if there are places and nothing above it is removed.
+fn push_row(
+    alloc: Global,
+    rows: &mut TakenList,
+    page: &PageState,
+    active: &Active,
+    marks: &Marks,
+    x: u32,
+    places: Numbers,
+) -> Result<(), AllocError>
+    requires exact { AreExact (record { page = page.now; filters = active.now }) marks.now }
+    requires element { IsElement page.now.tree x }
+    ensures { OnOk result (rows.new ≡ rows.old ++
+        taken_rows (record { page = page.now; filters = active.now }) (with_row x places [])) }
+{
+    if places.len() == 0 || !is_outermost(page, active, marks, x) {
+        return Ok(());
+    }
+    let name = Text::of(alloc, name_of(&page.tree, x))?;
+    rows.push(Taken {
+        round: 1,
+        node: x,
+        name,
+        filters: places,
+    })
+}
+
+// The name of an element; empty where the number is none's.
+fn name_of(dom: &Dom, n: u32) -> &str
+    ensures { result.now ≡ name dom.now n }
+{
+    dom.is_tree();
+    match dom.node(n) {
+        Some(node) => node.name(),
+        None => "",
+    }
+}
+
+// Whether no ancestor of an element is removed.
+fn is_outermost(page: &PageState, active: &Active, marks: &Marks, x: u32) -> bool
+    requires exact { AreExact (record { page = page.now; filters = active.now }) marks.now }
+    requires element { IsElement page.now.tree x }
+    ensures { result ≡ is_outermost pattern_found active.now page.now.path page.now.tree x }
+{
+    let dom = &page.tree;
+    let mut at = x;
+    'ancestors: while let Some(up) = parent(dom, at) {
+        if some_removes(active, marks.of(up)) {
+            return false;
+        }
+        at = up;
+    }
+    true
+}
+
+// Whether the filter at one of the places removes.
+fn some_removes(active: &Active, places: &[u32]) -> bool
+    ensures { result ≡ list_any (acts_at active.now Remove) places.now }
+{
+    for f in places {
+        if acts_at(active, *f, Action::Remove) {
+            return true;
+        }
+    }
+    false
+}
+
+/// Takes elements out of the page one after another, each with all below it, and answers what has to be asked again.
+pub(crate) fn take_out_all(page: &mut PageState, rows: &[Taken]) -> Pending
+    ensures page { page.new ≡ record page.old { tree = without_each page.old.tree (map (λ row. row.node) rows.now) } }
+    ensures noted { result.everything ≡ nat_lt 0 (length rows.now) }
+{
+    let mut pending = Pending::new();
+    for row in rows {
+        take_out(page, row.node, &mut pending);
+    }
+    pending
+}
+
+// Takes a node out of the page with all below it, and notes that.
+fn take_out(page: &mut PageState, n: u32, pending: &mut Pending)
+    ensures page { page.new ≡ record page.old { tree = detached n page.old.tree } }
+    ensures noted { pending.new.everything ≡ true }
+{
+    page.tree.is_tree();
+    // Where there is no such node the page is as it was, and so it is without it.
+    let _ = page.tree.detach(n);
+    pending.note();
+}
