@@ -17,7 +17,7 @@ first_of_more old new texts more first = record {
   count = first.count;
   fewer = grind (arith, common_steps, first.fewer);
   front = let within : first.count ≤ length texts = omega (arith, first.fewer) in
-    rw (take-append-le first.count texts more within) first.front;
+      rw (take-append-le first.count texts more within) first.front;
 }
 
 -- and the first of those that come later
@@ -27,9 +27,9 @@ first_of_later old new next texts more e first = record {
   count = length texts + first.count;
   fewer = grind (arith, common_steps, first.fewer);
   front =
-    let cut = take-append-add texts more first.count in
-    let parted = concat-append texts (take first.count more) in
-    grind (arith, common_steps, e, first.front, cut, parted);
+      let cut = take-append-add texts more first.count in
+      let parted = concat-append texts (take first.count more) in
+      grind (arith, common_steps, e, first.front, cut, parted);
 }
 
 told_still : {a b : Bool} → b ≡ a → IsTrue a → IsTrue b
@@ -71,11 +71,11 @@ pub and_more : {S T U E : Type 0} {tells : S → Bool} {written : S → List ℕ
 and_more {tells = tells} {written = written} {faults = faults} {old = old} {mid = mid} {new = new} {texts = texts} {more = more} {result = result} one two = record {
   told = two.told ∙ one.told;
   whole = λ t. on_ok_weaker result
-    (λ e. e ∙ ap (λ xs. xs ++ concat more) (one.whole t) ∙ append_assoc (written old) (concat texts) (concat more)
+      (λ e. e ∙ ap (λ xs. xs ++ concat more) (one.whole t) ∙ append_assoc (written old) (concat texts) (concat more)
       ∙ ap (λ xs. written old ++ xs) (sym (concat-append texts more)))
-    (two.whole (told_still one.told t));
+      (two.whole (told_still one.told t));
   front = λ t. rw concat-append
-    (front_of_second (written old) (written mid) (written new) (concat texts) (concat more) (one.whole t) (two.front (told_still one.told t)));
+      (front_of_second (written old) (written mid) (written new) (concat texts) (concat more) (one.whole t) (two.front (told_still one.told t)));
   first = λ t e. first_of_later (written old) (written mid) (written new) texts more (one.whole t) (two.first (told_still one.told t) e);
   later = omega (arith, one.later, two.later);
   cause = λ e. rose_since (faults old) (faults mid) (faults new) one.later (two.cause e);
@@ -91,7 +91,7 @@ error_before {E = E} {written = written} {fault = fault} {memory = memory} {old 
   whole = λ t. tt;
   front = λ t. rw concat-append (front_of_first (written old) (written new) (concat texts) (concat more) (h.front t));
   first = λ t e. let same : error ≡ memory = cc in
-    first_of_more (written old) (written new) texts more (h.first t (ap Err same));
+      first_of_more (written old) (written new) texts more (h.first t (ap Err same));
   later = h.later;
   cause = λ e. let same : error ≡ fault = cc in h.cause (ap Err same);
 }

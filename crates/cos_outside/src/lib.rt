@@ -111,19 +111,6 @@ mod tests {
     }
 
     #[test]
-    fn a_short_sink_takes_its_piece(rt: HostRuntime) -> Result<(), Fail> {
-        let alloc = rt.alloc();
-        let mut out = MemorySink::short(alloc, calls_of(alloc, &[3])?, 2);
-        assert_eq!(rt; out.write(b"one"), Ok(2));
-        assert_eq!(rt; out.write(b"e"), Ok(1));
-        // The third call fails after nothing, so that what is written is a front.
-        assert_eq!(rt; write_whole(&mut out, b"two"), Err(Failed));
-        assert_eq!(rt; write_whole(&mut out, b" three"), Ok(()));
-        assert_eq!(rt; out.written(), b"one three".as_slice());
-        Ok(())
-    }
-
-    #[test]
     fn the_real_things(rt: HostRuntime) -> Result<(), Fail> {
         let alloc = rt.alloc();
         let mut shelf = FileShelf::new(&rt);
