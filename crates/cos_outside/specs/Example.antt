@@ -7,6 +7,7 @@ use Rattle.cos_outside.specs.Files.{file_of, bytes_at}
 use Rattle.cos_outside.specs.MemoryShelf.{rest_in}
 use Rattle.cos_outside.specs.Reads.{TakesFrom}
 use Rattle.cos_outside.specs.Runs.{AppendsPrefix, HasLeft}
+use Rattle.cos_outside.specs.Writes.{AppendsFirst}
 
 -- counts: 5 rises to 6, and the last value stays
 
@@ -56,3 +57,8 @@ two_of_three = record { count = 2; within = le-suc 2; front = refl }
 
 one_left : HasLeft (codes "one") (codes "onetw") (codes "two") (codes "o")
 one_left = record { done = codes "tw"; appended = refl; whole = refl }
+
+-- writes: of three texts two were written whole
+
+two_texts_of_three : AppendsFirst (codes "a") (codes "abcd") (codes "bc" ∷ codes "d" ∷ codes "e" ∷ [])
+two_texts_of_three = record { count = 2; fewer = le_refl 3; front = refl }

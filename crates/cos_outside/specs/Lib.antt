@@ -6,3 +6,4 @@ pub mod MemorySink
 pub mod PlannedFaults
 pub mod Reads
 pub mod Runs
+pub mod Writes

@@ -14,3 +14,7 @@ fault_count sink = sink.faults.count
 -- which calls are to fail
 abbrev pub plan_of : MemorySink → PlannedFaults
 plan_of sink = sink.plan
+
+-- how many bytes are taken at once at most
+abbrev pub piece_of : MemorySink → ℕ
+piece_of sink = sink.piece

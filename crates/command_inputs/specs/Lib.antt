@@ -1,0 +1,4 @@
+pub mod Due
+pub mod Inputs
+pub mod Reads
+pub mod Example
