@@ -6,3 +6,4 @@ pub mod Chains
 pub mod Closing
 pub mod Leading
 pub mod Touched
+pub mod SameSets

@@ -8,16 +8,12 @@ use dom_arena::Dom;
 use selector_match::{is_element, next, parent, previous};
 use std::alloc::AllocError;
 
-/// One step.
-#[derive(Clone, Copy, Debug, PartialEq, Eq)]
-pub enum Near {
-    /// To the children.
+// One step: to the children, the parent, the next or the previous sibling.
+#[derive(Clone, Copy)]
+pub(crate) enum Near {
     Child,
-    /// To the parent.
     Parent,
-    /// To the next sibling.
     Next,
-    /// To the previous sibling.
     Previous,
 }
 

@@ -10,20 +10,9 @@ use Rattle.std.proofs.lemmas.List.Kept.{IsStrictlySortedBy-dedup}
 use Rattle.std.proofs.lemmas.List.Sorted.{list_any-IsPermutation}
 use Rattle.sensor_meaning.specs.declared.sensor.Sensor.{Sensor}
 use Rattle.sensor_meaning.specs.Order.{kind_at, name_at, ways_of, sensor_cmp, sensor_eq}
-use Rattle.sensor_meaning.proofs.Exact.{exact}
+use Rattle.dependency_sets.proofs.SameSets.{total, same}
 use Rattle.dependency_sets.proofs.SetLaws.{any-dedup}
 use Rattle.dependency_sets.proofs.set.Sensors.of.Goals as goal
-
-total : IsTotalOrder sensor_cmp
-total = then_total (on_total kind_at nat_cmp_total) (then_total (on_total name_at nat_list_cmp_total) (on_total ways_of nat_list_cmp_total))
-
-equal : (o : Ordering) → is_eq o ≡ true → o ≡ Equal
-equal Less h = cc
-equal Equal h = refl
-equal Greater h = cc
-
-same : (r s : Sensor) → sensor_eq r s ≡ true → r ≡ s
-same r s h = exact r s (equal (sensor_cmp r s) h)
 
 pub invariant_of-result : goal.invariant_of-result
 invariant_of-result c =
