@@ -53,7 +53,8 @@ impl Filed {
     /// Puts a number under a key. Without memory it stands under each key what stood there.
     pub fn put_under(&mut self, key: KeyRef<'_>, n: u32) -> Result<(), AllocError>
         ensures ok { OnOk result ((k : Key) (x : ℕ) →
-            holds self.new k x ≡ (holds self.old k x || (same_key k (key_in key.entry) && x == n))) }
+            holds self.new k x ≡
+            (holds self.old k x || (same_key k (key_in key.entry) && x == n))) }
         ensures err { OnErr result (IsSame self.old self.new) }
     {
         match key {
@@ -67,7 +68,8 @@ impl Filed {
     /// Takes a number from under a key. It takes no memory.
     pub fn take_from(&mut self, key: KeyRef<'_>, n: u32)
         ensures { (k : Key) (x : ℕ) →
-            holds self.new k x ≡ (holds self.old k x && not (same_key k (key_in key.entry) && x == n)) }
+            holds self.new k x ≡
+            (holds self.old k x && not (same_key k (key_in key.entry) && x == n)) }
     {
         match key {
             KeyRef::Class(class) => take_from(&mut self.classes, class, n),
@@ -97,7 +99,8 @@ fn put_under(
     n: u32,
 ) -> Result<(), AllocError>
     ensures ok { OnOk result ((v : List ℕ) (x : ℕ) →
-        is_in (numbers_at named.new v) x ≡ (is_in (numbers_at named.old v) x || (bytes_eq v name.now && x == n))) }
+        is_in (numbers_at named.new v) x ≡
+        (is_in (numbers_at named.old v) x || (bytes_eq v name.now && x == n))) }
     ensures err { OnErr result ((v : List ℕ) (x : ℕ) →
         is_in (numbers_at named.new v) x ≡ is_in (numbers_at named.old v) x) }
 {
@@ -115,7 +118,8 @@ fn put_under(
 // Takes a number from under a name, and the name out with its last number.
 fn take_from(named: &mut IndexMap<String, NumberSet>, name: &str, n: u32)
     ensures { (v : List ℕ) (x : ℕ) →
-        is_in (numbers_at named.new v) x ≡ (is_in (numbers_at named.old v) x && not (bytes_eq v name.now && x == n)) }
+        is_in (numbers_at named.new v) x ≡
+        (is_in (numbers_at named.old v) x && not (bytes_eq v name.now && x == n)) }
 {
     if take_out(named, name, n) {
         let _ = named.swap_remove(name);
@@ -125,7 +129,8 @@ fn take_from(named: &mut IndexMap<String, NumberSet>, name: &str, n: u32)
 // Takes a number from under a name, and says whether it was the last there.
 fn take_out(named: &mut IndexMap<String, NumberSet>, name: &str, n: u32) -> bool
     ensures taken { (v : List ℕ) (x : ℕ) →
-        is_in (numbers_at named.new v) x ≡ (is_in (numbers_at named.old v) x && not (bytes_eq v name.now && x == n)) }
+        is_in (numbers_at named.new v) x ≡
+        (is_in (numbers_at named.old v) x && not (bytes_eq v name.now && x == n)) }
     ensures last { OnTrue result (numbers_at named.new name.now ≡ []) }
 {
     match named.get_mut(name) {

@@ -44,7 +44,8 @@ impl Tables {
         requires element { IsElement dom.now n }
         requires absent { IsAbsent self.old n }
         ensures ok { OnOk result ((key : AKey) (x : ℕ) →
-            stands_under self.new key x ≡ (stands_under self.old key x || (x == n && carries dom.now key n))) }
+            stands_under self.new key x ≡
+            (stands_under self.old key x || (x == n && carries dom.now key n))) }
         ensures err { OnErr result (HasSame self.old self.new) }
     {
         match put_in(&mut self.filed, dom, n) {

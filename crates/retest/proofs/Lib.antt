@@ -1,0 +1,4 @@
+pub mod Sets
+pub mod Visits
+pub mod Keys
+pub mod Starting

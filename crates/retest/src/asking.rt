@@ -1,0 +1,250 @@
+// Asking again what is pending.
+ghost use Rattle.std.specs.Prelude.{◌≡◌, ◌==◌, ◌+◌, ◌≤◌, ◌<◌, ◌&&◌, ◌||◌, not, nat_eq, cond, ℕ, true, false, length, IfOk, OnOk, slice_get, unwrap_or};
+ghost use Rattle.std.specs.List.{list_any};
+ghost use Rattle.page_tree.specs.Standings.{all};
+ghost use Rattle.page_tree.specs.Directions.{is_in};
+ghost use Rattle.selector_match.specs.Asked.{IsElement};
+ghost use Rattle.kept_marks.specs.Kept.{is_marked};
+ghost use Rattle.retest_laws.specs.Pending.{asked_again, due_at, budget, IsRightBut, IsExact};
+ghost use Rattle.retest.specs.Asked.{answers, carried, group_in, pends, IsReady};
+
+use crate::{Everything, Pending, Pends};
+use cos_outside::Steps;
+use cos_patterns::PatternTable;
+use dom_arena::Dom;
+use generic_tables::{FilterTable, keys_at};
+use indexmap::IndexSet;
+use kept_marks::Marks;
+use listed::Numbers;
+use procedural_ops::{next_element, test};
+use selector_match::is_element;
+use selector_tree::Active;
+use std::alloc::{AllocError, Global};
+use std::sync::ledger::Ledger;
+
+/// A page, and the filters that are asked of its elements: with their patterns, by the keys of their chains, and the group of
+/// each.
+#[derive(Clone, Copy)]
+pub struct Asking<'a> {
+    pub dom: &'a Dom,
+    pub path: &'a str,
+    pub table: &'a PatternTable,
+    pub active: &'a Active,
+    pub keyed: &'a FilterTable,
+    pub groups: &'a [u32],
+}
+
+// The group of a filter; 0 past the last.
+fn group_of(groups: &[u32], f: u32) -> u32
+    ensures { result ≡ group_in groups.now f }
+{
+    match groups.get(f as usize) {
+        Some(group) => *group,
+        None => 0,
+    }
+}
+
+// Adds the filters of one key whose group is pending at an element.
+fn add_due<W: Pends>(
+    due: &mut IndexSet<u32>,
+    filters: &[u32],
+    groups: &[u32],
+    pending: &W,
+    x: u32,
+) -> Result<(), AllocError>
+    ensures { OnOk result ((f : ℕ) → list_any (nat_eq f) due.new.keys ≡
+        (list_any (nat_eq f) due.old.keys ||
+        (is_in filters.now f && W.pends pending.now (group_in groups.now f) x))) }
+{
+    for f in filters {
+        if pending.has(group_of(groups, *f), x) {
+            due.insert(*f)?;
+        }
+    }
+    Ok(())
+}
+
+// The filters to ask at an element, each once: those whose key it carries and whose group is pending there.
+fn due_of<W: Pends>(
+    alloc: Global,
+    asking: &Asking<'_>,
+    pending: &W,
+    x: u32,
+) -> Result<IndexSet<u32>, AllocError>
+    requires { IsReady asking.now }
+    ensures { IfOk result (λ due. (f : ℕ) → list_any (nat_eq f) due.keys ≡
+        (carried asking.now f x && W.pends pending.now (group_in asking.now.groups.now f) x)) }
+{
+    let mut due = IndexSet::new(alloc);
+    let mut keys = keys_at(asking.dom, x);
+    'keys: while let Some(key) = keys.next() {
+        add_due(
+            &mut due,
+            asking.keyed.filters_for(key),
+            asking.groups,
+            pending,
+            x,
+        )?;
+    }
+    Ok(due)
+}
+
+// The filters that are marked at an element and pending there.
+fn stale_of<W: Pends>(
+    alloc: Global,
+    groups: &[u32],
+    pending: &W,
+    marked: &[u32],
+    x: u32,
+) -> Result<Numbers, AllocError>
+    ensures { IfOk result (λ stale. (f : ℕ) → is_in stale f ≡
+        (is_in marked.now f && W.pends pending.now (group_in groups.now f) x)) }
+{
+    let mut stale = Numbers::new(alloc);
+    for f in marked {
+        if pending.has(group_of(groups, *f), x) {
+            stale.push(*f)?;
+        }
+    }
+    Ok(stale)
+}
+
+// Takes the pairs of some filters and an element out.
+fn clear_all(marks: &mut Marks, stale: &[u32], x: u32)
+    ensures { (g y : ℕ) → is_marked marks.new g y ≡
+        (is_marked marks.old g y && not (y == x && is_in stale.now g)) }
+{
+    for f in stale {
+        marks.clear(*f, x);
+    }
+}
+
+// Asks some filters of an element, and marks the answers.
+fn ask_all<L: Ledger, P: Ledger>(
+    alloc: Global,
+    asking: &Asking<'_>,
+    due: &[u32],
+    x: u32,
+    marks: &mut Marks,
+    checks: &mut Steps<L>,
+    parts: &mut Steps<P>,
+) -> Result<(), AllocError>
+    requires ready { IsReady asking.now }
+    requires element { IsElement asking.now.dom.now x }
+    requires filters { (f : ℕ) → is_in due.now f ≡ true → f < length asking.now.active.now }
+    ensures marks { OnOk result ((g y : ℕ) → is_marked marks.new g y ≡
+        cond (y == x && is_in due.now g) (answers asking.now g y) (is_marked marks.old g y)) }
+    ensures checks { checks.new ≤ checks.old + length due.now }
+{
+    for f in due {
+        let verdict = test(
+            alloc,
+            asking.dom,
+            asking.path,
+            asking.table,
+            asking.active,
+            *f,
+            x,
+            checks,
+            parts,
+        )?;
+        marks.put(verdict)?;
+    }
+    Ok(())
+}
+
+// Asks again what is pending at an element.
+fn ask_at<W: Pends, L: Ledger, P: Ledger>(
+    alloc: Global,
+    asking: &Asking<'_>,
+    pending: &W,
+    x: u32,
+    marks: &mut Marks,
+    checks: &mut Steps<L>,
+    parts: &mut Steps<P>,
+) -> Result<(), AllocError>
+    requires ready { IsReady asking.now }
+    requires element { IsElement asking.now.dom.now x }
+    ensures marks { OnOk result ((g y : ℕ) → is_marked marks.new g y ≡
+        cond (y == x && W.pends pending.now (group_in asking.now.groups.now g) y)
+        (carried asking.now g y && answers asking.now g y) (is_marked marks.old g y)) }
+    ensures checks { checks.new ≤ checks.old +
+        due_at (length asking.now.active.now) (carried asking.now) (λ f y. W.pends pending.now (group_in asking.now.groups.now f) y) x }
+{
+    let due = due_of(alloc, asking, pending, x)?;
+    let stale = stale_of(alloc, asking.groups, pending, marks.of(x), x)?;
+    clear_all(marks, stale.as_slice(), x);
+    ask_all(alloc, asking, due.as_slice(), x, marks, checks, parts)
+}
+
+// Asks again what is pending, at the elements that the page still has.
+fn ask_pending<L: Ledger, P: Ledger>(
+    alloc: Global,
+    asking: &Asking<'_>,
+    pending: &Pending,
+    marks: &mut Marks,
+    checks: &mut Steps<L>,
+    parts: &mut Steps<P>,
+) -> Result<(), AllocError>
+    requires { IsReady asking.now }
+    ensures marks { OnOk result ((f x : ℕ) → is_marked marks.new f x ≡
+        asked_again (all asking.now.dom.now) (answers asking.now) (carried asking.now)
+        (pends asking.now pending.now) (is_marked marks.old) f x) }
+    ensures checks { checks.new ≤ checks.old +
+        budget (length asking.now.active.now) (all asking.now.dom.now) (carried asking.now) (pends asking.now pending.now) }
+{
+    for x in pending.elements() {
+        if is_element(asking.dom, *x) {
+            ask_at(alloc, asking, pending, *x, marks, checks, parts)?;
+        }
+    }
+    Ok(())
+}
+
+/// Asks again what is pending, at the elements that the page still has, each pair of a filter and an element once.
+///
+/// Where the marks were right but for what is pending, they are exact afterwards. Elements that the page has no more must
+/// have left the marks before.
+pub fn retest<L: Ledger, P: Ledger>(
+    alloc: Global,
+    asking: &Asking<'_>,
+    pending: &Pending,
+    marks: &mut Marks,
+    checks: &mut Steps<L>,
+    parts: &mut Steps<P>,
+) -> Result<(), AllocError>
+    requires { IsReady asking.now }
+    ensures marks { OnOk result ((f x : ℕ) → is_marked marks.new f x ≡
+        asked_again (all asking.now.dom.now) (answers asking.now) (carried asking.now)
+        (pends asking.now pending.now) (is_marked marks.old) f x) }
+    ensures exact { IsRightBut (all asking.now.dom.now) (answers asking.now) (is_marked marks.old)
+        (pends asking.now pending.now) →
+        OnOk result (IsExact (all asking.now.dom.now) (answers asking.now) (is_marked marks.new)) }
+    ensures checks { checks.new ≤ checks.old +
+        budget (length asking.now.active.now) (all asking.now.dom.now) (carried asking.now) (pends asking.now pending.now) }
+{
+    ask_pending(alloc, asking, pending, marks, checks, parts)
+}
+
+/// The marks of a page: each filter is asked of each element that carries a key of it, once.
+pub fn start<L: Ledger, P: Ledger>(
+    alloc: Global,
+    asking: &Asking<'_>,
+    checks: &mut Steps<L>,
+    parts: &mut Steps<P>,
+) -> Result<Marks, AllocError>
+    requires { IsReady asking.now }
+    ensures exact { IfOk result (λ marks.
+        IsExact (all asking.now.dom.now) (answers asking.now) (is_marked marks)) }
+    ensures checks { checks.new ≤ checks.old +
+        budget (length asking.now.active.now) (all asking.now.dom.now) (carried asking.now) (λ f x. true) }
+{
+    asking.dom.is_tree();
+    let mut marks = Marks::new(alloc);
+    let mut at = next_element(asking.dom, 0);
+    'elements: while let Some(x) = at {
+        ask_at(alloc, asking, &Everything, x, &mut marks, checks, parts)?;
+        at = next_element(asking.dom, x);
+    }
+    Ok(marks)
+}
