@@ -2,12 +2,13 @@
 ghost use Rattle.std.specs.Prelude.{◌≡◌, ◌++◌, map, string_bytes, IfOk, OnOk};
 ghost use Rattle.std.specs.List.{flat_map};
 ghost use Rattle.page_tree.specs.Standings.{name};
-ghost use Rattle.hide_report.specs.Texts.{aside_text, at_text, cause_text, malformed_text, notice_text, notices_text, filter_text, count_text, head_text, pair_of, row_text, place_text, step_line, hidden_line, answer_text, step_text, end_text};
+ghost use Rattle.engine_meaning.specs.Hidden.{pair_of};
+ghost use Rattle.hide_report.specs.Texts.{aside_text, at_text, cause_text, malformed_text, notice_text, notices_text, filter_text, count_text, head_text, row_text, taken_text, place_text, places_text, step_line, hidden_line, hidden_text, end_text};
 
 use crate::names::{cause_name, kind_name};
 use dom_arena::Dom;
-use list_reader::Notice;
-use selector_tree::{Filter, HiddenRow};
+use list_entries::Notice;
+use selector_tree::{Filter, HiddenRow, Taken};
 use std::alloc::{AllocError, Global};
 
 /// What is said of lines of a list.
@@ -64,14 +65,28 @@ fn push_at(text: &mut String, at: usize) -> Result<(), AllocError>
 }
 
 /// The page's address, and the active filters.
-pub fn head_text(alloc: Global, address: &str, active: &[Filter]) -> Result<String, AllocError>
-    ensures { IfOk result (λ text. string_bytes text ≡ head_text address.now active.now) }
+pub fn head_text(
+    alloc: Global,
+    address: &str,
+    active: &[Filter],
+    brief: bool,
+) -> Result<String, AllocError>
+    ensures { IfOk result (λ text. string_bytes text ≡ head_text address.now active.now brief) }
 {
     let mut text = count_text(alloc, address, active.len())?;
-    for filter in active {
-        push_filter(&mut text, filter)?;
+    if !brief {
+        push_filters(&mut text, active)?;
     }
     Ok(text)
+}
+
+fn push_filters(text: &mut String, active: &[Filter]) -> Result<(), AllocError>
+    ensures { OnOk result (string_bytes text.new ≡ string_bytes text.old ++ flat_map filter_text active.now) }
+{
+    for filter in active {
+        push_filter(text, filter)?;
+    }
+    Ok(())
 }
 
 fn count_text(alloc: Global, address: &str, count: usize) -> Result<String, AllocError>
@@ -97,30 +112,12 @@ fn push_filter(text: &mut String, filter: &Filter) -> Result<(), AllocError>
     write!(text, "filter {list}:{line} {canonical}\n")
 }
 
-/// A step of the report: its number, its answer, and the hidden elements of the page as it then stands.
-pub fn step_text(
-    alloc: Global,
-    number: u32,
-    answer: &str,
-    dom: &Dom,
-    active: &[Filter],
-    rows: &[HiddenRow],
-) -> Result<String, AllocError>
-    ensures { IfOk result (λ text. string_bytes text ≡ step_text number answer.now dom.now active.now (map pair_of rows.now)) }
-{
-    let mut text = answer_text(alloc, number, answer, rows.len())?;
-    for row in rows {
-        push_row(&mut text, dom, active, row)?;
-    }
-    Ok(text)
-}
-
-fn answer_text(alloc: Global, number: u32, answer: &str, count: usize) -> Result<String, AllocError>
-    ensures { IfOk result (λ text. string_bytes text ≡ answer_text number answer.now count) }
+/// The first line of a step: its number and its answer.
+pub fn step_line(alloc: Global, number: u32, answer: &str) -> Result<String, AllocError>
+    ensures { IfOk result (λ text. string_bytes text ≡ step_line number answer.now) }
 {
     let mut text = String::new(alloc);
     push_step_line(&mut text, number, answer)?;
-    push_hidden_line(&mut text, count)?;
     Ok(text)
 }
 
@@ -130,10 +127,65 @@ fn push_step_line(text: &mut String, number: u32, answer: &str) -> Result<(), Al
     write!(text, "step {number} {answer}\n")
 }
 
+/// The elements that were taken out.
+pub fn push_taken_rows(
+    text: &mut String,
+    active: &[Filter],
+    taken: &[Taken],
+) -> Result<(), AllocError>
+    ensures { OnOk result (string_bytes text.new ≡ string_bytes text.old ++ flat_map (taken_text active.now) taken.now) }
+{
+    for row in taken {
+        push_taken(text, active, row)?;
+    }
+    Ok(())
+}
+
+fn push_taken(text: &mut String, active: &[Filter], taken: &Taken) -> Result<(), AllocError>
+    ensures { OnOk result (string_bytes text.new ≡ string_bytes text.old ++ taken_text active.now taken.now) }
+{
+    let round = taken.round;
+    let node = taken.node;
+    let name = taken.name.as_str();
+    write!(text, "taken {round} {node} {name}")?;
+    push_places(text, active, taken.filters.as_slice())
+}
+
+/// The hidden elements of the page as it stands.
+pub fn push_hidden(
+    text: &mut String,
+    dom: &Dom,
+    active: &[Filter],
+    rows: &[HiddenRow],
+    brief: bool,
+) -> Result<(), AllocError>
+    ensures { OnOk result (string_bytes text.new ≡ string_bytes text.old ++ hidden_text dom.now active.now (map pair_of rows.now) brief) }
+{
+    push_hidden_line(text, rows.len())?;
+    if !brief {
+        push_rows(text, dom, active, rows)?;
+    }
+    Ok(())
+}
+
 fn push_hidden_line(text: &mut String, count: usize) -> Result<(), AllocError>
     ensures { OnOk result (string_bytes text.new ≡ string_bytes text.old ++ hidden_line count) }
 {
     write!(text, "hidden {count}\n")
+}
+
+fn push_rows(
+    text: &mut String,
+    dom: &Dom,
+    active: &[Filter],
+    rows: &[HiddenRow],
+) -> Result<(), AllocError>
+    ensures { OnOk result (string_bytes text.new ≡ string_bytes text.old ++ flat_map (row_text dom.now active.now) (map pair_of rows.now)) }
+{
+    for row in rows {
+        push_row(text, dom, active, row)?;
+    }
+    Ok(())
 }
 
 fn push_row(
@@ -147,8 +199,7 @@ fn push_row(
     let node = row.node;
     let name = name_of(dom, node);
     write!(text, " {node} {name}")?;
-    push_places(text, active, row.filters.as_slice())?;
-    text.push_str("\n")
+    push_places(text, active, row.filters.as_slice())
 }
 
 // The name of an element; empty where the number is none's.
@@ -162,13 +213,14 @@ fn name_of(dom: &Dom, node: u32) -> &str
     }
 }
 
+// The filters at these places, and the end of the line.
 fn push_places(text: &mut String, active: &[Filter], places: &[u32]) -> Result<(), AllocError>
-    ensures { OnOk result (string_bytes text.new ≡ string_bytes text.old ++ flat_map (place_text active.now) places.now) }
+    ensures { OnOk result (string_bytes text.new ≡ string_bytes text.old ++ places_text active.now places.now) }
 {
     for place in places {
         push_place(text, active, *place)?;
     }
-    Ok(())
+    text.push_str("\n")
 }
 
 fn push_place(text: &mut String, active: &[Filter], place: u32) -> Result<(), AllocError>

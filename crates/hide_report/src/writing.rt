@@ -1,25 +1,30 @@
 // How a report is written. Each part makes its whole text first, and then writes it in one piece.
-ghost use Rattle.std.specs.Prelude.{◌≡◌, ◌≤◌, ◌++◌, map, string_bytes, IsTrue, IfOk, OnOk, IsErrOf};
-ghost use Rattle.cos_outside.specs.Causes.{Rose};
-ghost use Rattle.cos_outside.specs.Runs.{AppendsPrefix};
+ghost use Rattle.std.specs.Prelude.{◌≡◌, map, string_bytes};
+ghost use Rattle.engine_meaning.specs.Hidden.{pair_of};
 ghost use Rattle.hide_report.specs.Answers.{answer_name};
-ghost use Rattle.hide_report.specs.Texts.{notices_text, head_text, step_text, end_text, pair_of};
+ghost use Rattle.hide_report.specs.Reported.{IsAnswer, Reports};
+ghost use Rattle.hide_report.specs.Texts.{notices_text, head_text, step_text, end_text, counts_text, drill_text};
 
 use crate::answer::answer_name;
-use crate::texts;
+use crate::counts::DrillCounts;
+use crate::{counts, texts};
+use address_patterns::Page;
 use cos_outside::{Failed, Sink, write_whole};
 use dom_arena::Dom;
-use list_reader::Notices;
+use list_entries::{Lists, Notices};
 use mutation_script::Answer;
-use selector_tree::{Active, Rows};
+use selector_tree::{Active, Rows, TakenList};
 use std::alloc::{AllocError, Global};
+use thiserror::Error;
 
-/// Why a report wasn't written whole.
-#[derive(Clone, Copy, Debug, PartialEq, Eq)]
+/// Why a text of the report wasn't written whole.
+#[derive(Clone, Copy, Debug, PartialEq, Eq, Error)]
 pub enum ReportError {
     /// The output could not be written; what was written is a front of the text.
+    #[error("the output could not be written")]
     WriteFault,
-    /// Memory ran out, and nothing was written.
+    /// Memory ran out, and nothing of the text was written.
+    #[error("out of memory")]
     NoMemory,
 }
 
@@ -43,85 +48,98 @@ impl From<AllocError> for ReportError {
     }
 }
 
-/// Writes what is said of lines of a list, by its number from 1.
+/// Writes what is said of the lines of a file: of the list of this number, or by 0 of the file of public suffix rules.
 pub fn write_notices<O: Sink>(
     alloc: Global,
     out: &mut O,
     list: u32,
     notices: &Notices,
 ) -> Result<(), ReportError>
-    ensures told { O.tells out.new ≡ O.tells out.old }
-    ensures whole { IsTrue (O.tells out.old) → OnOk result (O.written out.new ≡ O.written out.old ++ notices_text list notices.now) }
-    ensures front { IsTrue (O.tells out.old) → AppendsPrefix (O.written out.old) (O.written out.new) (notices_text list notices.now) }
-    ensures memory { IsErrOf result ReportError.NoMemory → O.written out.new ≡ O.written out.old }
-    ensures later { O.faults out.old ≤ O.faults out.new }
-    ensures fault { IsErrOf result ReportError.WriteFault → Rose (O.faults out.old) (O.faults out.new) }
+    ensures { Reports O.tells O.written O.faults out.old out.new
+        (notices_text list notices.now) result }
 {
     let text = texts::notices_text(alloc, list, notices.as_slice())?;
-    write_whole(out, text.as_bytes())?;
-    Ok(())
+    write_text(out, &text)
 }
 
 /// Writes the page's address and the active filters.
 pub fn write_head<O: Sink>(
     alloc: Global,
     out: &mut O,
-    address: &str,
+    page: &Page,
     active: &Active,
+    brief: bool,
 ) -> Result<(), ReportError>
-    ensures told { O.tells out.new ≡ O.tells out.old }
-    ensures whole { IsTrue (O.tells out.old) → OnOk result (O.written out.new ≡ O.written out.old ++ head_text address.now active.now) }
-    ensures front { IsTrue (O.tells out.old) → AppendsPrefix (O.written out.old) (O.written out.new) (head_text address.now active.now) }
-    ensures memory { IsErrOf result ReportError.NoMemory → O.written out.new ≡ O.written out.old }
-    ensures later { O.faults out.old ≤ O.faults out.new }
-    ensures fault { IsErrOf result ReportError.WriteFault → Rose (O.faults out.old) (O.faults out.new) }
+    ensures { Reports O.tells O.written O.faults out.old out.new
+        (head_text page.now.address active.now brief) result }
 {
-    let text = texts::head_text(alloc, address, active.as_slice())?;
-    write_whole(out, text.as_bytes())?;
-    Ok(())
+    let text = texts::head_text(alloc, page.address.as_str(), active.as_slice(), brief)?;
+    write_text(out, &text)
 }
 
-/// Writes a step: its number, its answer, and the hidden elements of the page as it then stands. Filters go by their places
-/// among the active ones; a place past the last prints nothing.
+/// Writes a step: its number, its answer, the elements taken out since the one before, and the hidden elements of the page as it
+/// then stands. Filters go by their places among the active ones.
 pub fn write_step<O: Sink>(
     alloc: Global,
     out: &mut O,
     number: u32,
-    answer: Answer,
+    answer: &Answer,
     dom: &Dom,
     active: &Active,
+    taken: &TakenList,
     rows: &Rows,
+    brief: bool,
 ) -> Result<(), ReportError>
-    ensures told { O.tells out.new ≡ O.tells out.old }
-    ensures whole { IsTrue (O.tells out.old) → OnOk result (O.written out.new ≡ O.written out.old ++ step_text number (answer_name answer) dom.now active.now (map pair_of rows.now)) }
-    ensures front { IsTrue (O.tells out.old) → AppendsPrefix (O.written out.old) (O.written out.new) (step_text number (answer_name answer) dom.now active.now (map pair_of rows.now)) }
-    ensures memory { IsErrOf result ReportError.NoMemory → O.written out.new ≡ O.written out.old }
-    ensures later { O.faults out.old ≤ O.faults out.new }
-    ensures fault { IsErrOf result ReportError.WriteFault → Rose (O.faults out.old) (O.faults out.new) }
+    requires { IsAnswer answer.now }
+    ensures { Reports O.tells O.written O.faults out.old out.new
+        (step_text number (answer_name answer.now) dom.now active.now taken.now
+            (map pair_of rows.now) brief) result }
 {
-    let answer = answer_name(alloc, answer)?;
-    let text = texts::step_text(
-        alloc,
-        number,
-        answer.as_str(),
-        dom,
-        active.as_slice(),
-        rows.as_slice(),
-    )?;
-    write_whole(out, text.as_bytes())?;
-    Ok(())
+    let answer = answer_name(alloc, *answer)?;
+    let mut text = texts::step_line(alloc, number, answer.as_str())?;
+    texts::push_taken_rows(&mut text, active.as_slice(), taken.as_slice())?;
+    texts::push_hidden(&mut text, dom, active.as_slice(), rows.as_slice(), brief)?;
+    write_text(out, &text)
 }
 
 /// Writes the end of the report, with the number of lines of the script.
 pub fn write_end<O: Sink>(alloc: Global, out: &mut O, lines: u32) -> Result<(), ReportError>
-    ensures told { O.tells out.new ≡ O.tells out.old }
-    ensures whole { IsTrue (O.tells out.old) → OnOk result (O.written out.new ≡ O.written out.old ++ end_text lines) }
-    ensures front { IsTrue (O.tells out.old) → AppendsPrefix (O.written out.old) (O.written out.new) (end_text lines) }
-    ensures memory { IsErrOf result ReportError.NoMemory → O.written out.new ≡ O.written out.old }
-    ensures later { O.faults out.old ≤ O.faults out.new }
-    ensures fault { IsErrOf result ReportError.WriteFault → Rose (O.faults out.old) (O.faults out.new) }
+    ensures { Reports O.tells O.written O.faults out.old out.new (end_text lines) result }
 {
     let text = texts::end_text(alloc, lines)?;
+    write_text(out, &text)
+}
+
+/// Writes how many filters, exceptions and page options the lists have together.
+pub fn write_counts<O: Sink>(
+    alloc: Global,
+    out: &mut O,
+    lists: &Lists,
+) -> Result<(), ReportError>
+    ensures { Reports O.tells O.written O.faults out.old out.new (counts_text lists.now) result }
+{
+    let text = counts::counts_text(alloc, lists.as_slice())?;
+    write_text(out, &text)
+}
+
+/// Writes the line of a drill.
+pub fn write_drill<O: Sink>(
+    alloc: Global,
+    out: &mut O,
+    counts: DrillCounts,
+    brief: bool,
+) -> Result<(), ReportError>
+    ensures { Reports O.tells O.written O.faults out.old out.new
+        (drill_text counts.number counts.nodes counts.steps counts.hidden counts.taken brief) result }
+{
+    let text = counts::drill_text(alloc, counts, brief)?;
+    write_text(out, &text)
+}
+
+// Writes a text that was made.
+fn write_text<O: Sink>(out: &mut O, text: &String) -> Result<(), ReportError>
+    ensures { Reports O.tells O.written O.faults out.old out.new (string_bytes text.now) result }
+{
     write_whole(out, text.as_bytes())?;
     Ok(())
 }
