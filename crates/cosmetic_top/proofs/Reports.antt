@@ -9,7 +9,7 @@ use Rattle.cos_patterns.specs.declared.written.Written.{Written}
 use Rattle.selector_tree.specs.declared.filter.Filter.{Filter}
 use Rattle.list_reader.specs.declared.notice.Notice.{Notice}
 use Rattle.list_reader.specs.Filters.{unnumbered_filter, filters_in, notices_in}
-use Rattle.hide_report.specs.Texts.{notices_text}
+use Rattle.plain_report.specs.Texts.{notices_text}
 use Rattle.cosmetic_top.specs.declared.inputs.Inputs.{Inputs}
 use Rattle.cosmetic_top.specs.declared.reading.Reading.{Reading}
 use Rattle.cosmetic_top.specs.declared.status.Status.{Status}

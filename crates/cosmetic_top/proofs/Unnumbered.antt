@@ -19,8 +19,8 @@ use Rattle.mutation_script.specs.declared.answer.Answer.{Answer}
 use Rattle.mutation_script.specs.declared.answer.Answer.TheVariants.{Opened}
 use Rattle.mutation_script.specs.Changes.{answer, after}
 use Rattle.list_reader.specs.Filters.{unnumbered_filter}
-use Rattle.hide_report.specs.Answers.{answer_name}
-use Rattle.hide_report.specs.Texts.{count_text, filter_text, head_text, spaced_name, place_text, answer_text, end_text, step_text}
+use Rattle.plain_report.specs.Answers.{answer_name}
+use Rattle.plain_report.specs.Texts.{count_text, filter_text, head_text, spaced_name, place_text, answer_text, end_text, step_text}
 use Rattle.cosmetic_top.specs.FilterSets.{selectors_of}
 use Rattle.cosmetic_top.specs.Report.{hidden_by, page_step, line_text, lines_text, script_text, steps_text, page_text}
 

@@ -2,8 +2,8 @@
 use Rattle.std.specs.Prelude.{ℕ, ◌≡◌, Bool, true, false, Result, Ok, Err}
 use Rattle.cosmetic_top.specs.declared.status.Status.{Status}
 use Rattle.cosmetic_top.specs.declared.status.Status.TheVariants.{Done, Usage, ReadFault, WriteFault, Refused, NoMemory}
-use Rattle.hide_report.specs.declared.writing.ReportError.{ReportError}
-use Rattle.hide_report.specs.declared.writing.ReportError.TheVariants.{WriteFault as OutputFault, NoMemory as OutputMemory}
+use Rattle.plain_report.specs.declared.writing.ReportError.{ReportError}
+use Rattle.plain_report.specs.declared.writing.ReportError.TheVariants.{WriteFault as OutputFault, NoMemory as OutputMemory}
 
 -- an answer that isn't tied to the words and the files: it comes from a fault or from want of memory
 abbrev pub is_failure : Status → Bool

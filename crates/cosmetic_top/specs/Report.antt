@@ -14,8 +14,8 @@ use Rattle.mutation_script.specs.declared.answer.Answer.{Answer}
 use Rattle.mutation_script.specs.declared.answer.Answer.TheVariants.{Opened}
 use Rattle.mutation_script.specs.Changes.{answer, after}
 use Rattle.list_reader.specs.Filters.{filters_in, notices_in}
-use Rattle.hide_report.specs.Answers.{answer_name}
-use Rattle.hide_report.specs.Texts.{notices_text, head_text, step_text, end_text}
+use Rattle.plain_report.specs.Answers.{answer_name}
+use Rattle.plain_report.specs.Texts.{notices_text, head_text, step_text, end_text}
 use Rattle.cosmetic_top.specs.declared.reading.Reading.{Reading}
 use Rattle.cosmetic_top.specs.FilterSets.{selectors_of}
 

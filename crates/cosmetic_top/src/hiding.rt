@@ -5,7 +5,7 @@ ghost use Rattle.selector_match.specs.Asked.{IsElement};
 ghost use Rattle.selector_meaning.specs.Meaning.{selects};
 ghost use Rattle.procedural_ops.specs.Told.{selector_at};
 ghost use Rattle.selector_meaning.specs.Hidden.{selected_places, with_row, hidden};
-ghost use Rattle.hide_report.specs.Texts.{pair_of};
+ghost use Rattle.plain_report.specs.Texts.{pair_of};
 ghost use Rattle.cosmetic_top.specs.FilterSets.{MayBeAsked, selectors_of};
 
 use cos_outside::Steps;

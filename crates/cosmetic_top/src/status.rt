@@ -1,6 +1,6 @@
 ghost use Rattle.std.specs.Prelude.{◌≡◌};
 
-use hide_report::ReportError;
+use plain_report::ReportError;
 use std::alloc::AllocError;
 
 /// A file that the words name.

@@ -13,8 +13,8 @@ use crate::hiding::{FilterSet, hidden_rows};
 use crate::reading::Reading;
 use cos_outside::{Sink, Steps};
 use cos_source::{Lines, without_mark};
-use hide_report::{Answer, ReportError, write_end, write_head, write_notices, write_step};
 use mutation_script::PageState;
+use plain_report::{Answer, ReportError, write_end, write_head, write_notices, write_step};
 use std::alloc::Global;
 use std::sync::ledger::Ledger;
 

@@ -6,7 +6,7 @@ use Rattle.selector_meaning.specs.Hidden.{rows_of}
 use Rattle.selector_meaning.specs.Meaning.{selects}
 use Rattle.procedural_ops.specs.Walks.{elements_behind, order}
 use Rattle.procedural_ops.proofs.Walking.{from_one, from_found, all_behind, some_of}
-use Rattle.hide_report.specs.Texts.{pair_of}
+use Rattle.plain_report.specs.Texts.{pair_of}
 use Rattle.cosmetic_top.specs.FilterSets.{selectors_of}
 use Rattle.cosmetic_top.proofs.Rows.{rows_go_on}
 use Rattle.cosmetic_top.proofs.hiding.hidden_rows.Goals as goal

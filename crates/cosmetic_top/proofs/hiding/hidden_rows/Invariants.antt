@@ -7,7 +7,7 @@ use Rattle.selector_meaning.specs.Meaning.{selects}
 use Rattle.selector_match.specs.Asked.{IsElement}
 use Rattle.procedural_ops.specs.Walks.{elements_behind, order}
 use Rattle.procedural_ops.proofs.Walking.{from_one}
-use Rattle.hide_report.specs.Texts.{pair_of}
+use Rattle.plain_report.specs.Texts.{pair_of}
 use Rattle.cosmetic_top.specs.FilterSets.{selectors_of}
 use Rattle.cosmetic_top.proofs.hiding.hidden_rows.Given as goal
 

@@ -1,6 +1,6 @@
 use Rattle.std.proofs.Common.{IsTrue, codes}
 use Rattle.cos_outside.proofs.Appending.{front_of_first, front_of_second}
-use Rattle.hide_report.specs.Texts.{head_text}
+use Rattle.plain_report.specs.Texts.{head_text}
 use Rattle.cosmetic_top.specs.Report.{steps_text}
 use Rattle.cosmetic_top.proofs.Parts.{both_whole}
 use Rattle.cosmetic_top.proofs.writing.write_page.Goals as goal

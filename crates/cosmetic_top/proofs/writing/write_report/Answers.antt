@@ -2,7 +2,7 @@ use Rattle.std.proofs.Common.{◌≡◌, ◌++◌, ℕ, List, IsTrue, OnOk, ap, 
 use Rattle.cos_outside.specs.Runs.{AppendsPrefix}
 use Rattle.cos_outside.proofs.Appending.{front_of_first, front_of_second}
 use Rattle.cos_source.specs.Mark.{without_mark}
-use Rattle.hide_report.specs.Texts.{notices_text}
+use Rattle.plain_report.specs.Texts.{notices_text}
 use Rattle.cosmetic_top.specs.Report.{page_text}
 use Rattle.cosmetic_top.proofs.Parts.{both_whole}
 use Rattle.cosmetic_top.proofs.writing.write_report.Goals as goal
