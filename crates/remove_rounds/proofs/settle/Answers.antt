@@ -1,0 +1,56 @@
+use Rattle.std.proofs.Common.{◌++◌, ◌+◌, ◌<◌, List, length, ap, sym, subst, refl, ◌∙◌, arith}
+use Rattle.page_tree.specs.Trees.{IsTree}
+use Rattle.page_tree.specs.Standings.{all}
+use Rattle.cos_patterns.specs.Found.{pattern_found}
+use Rattle.selector_tree.specs.declared.filter.Taken.{Taken}
+use Rattle.engine_meaning.specs.Rounds.{removed, taken_from}
+use Rattle.engine_meaning.specs.States.{State, settled_state, taken_of}
+use Rattle.engine_meaning.proofs.Settling.{settled-quiet}
+use Rattle.remove_rounds.proofs.Rounds.{few_elements, no_rows, some_rows, ended, ended_taken, fewer, settled_later, taken_later}
+use Rattle.remove_rounds.proofs.settle.Goals as goal
+
+pub rounds-init : goal.rounds-init
+rounds-init g c =
+    record {
+      settled = refl;
+      taken = ap (λ (rows : List Taken). rows ++ taken_of pattern_found c.args.engine) c.new-taken.ensures;
+      few = omega (arith, few_elements c.args.engine.page.tree (subst IsTree c.dom.ensures c.is_tree.ensures));
+    }
+
+pub returns-then-len-eq0-clause-engine : goal.returns-then-len-eq0-clause-engine
+returns-then-len-eq0-clause-engine g c =
+    c.in_ok-next.ensures.engine
+    ∙ ended c.rounds.engine (subst IsTree c.dom-in-rounds.ensures c.is_tree-in-rounds.ensures)
+    (no_rows c.in_ok-next.rows (sym c.len.ensures ∙ c.if-len-eq0.true) c.in_ok-next.ensures.taken)
+    ∙ c.rounds.invariant.settled
+
+pub returns-then-len-eq0-clause-taken : goal.returns-then-len-eq0-clause-taken
+returns-then-len-eq0-clause-taken g c =
+    ended_taken c.rounds.engine (subst IsTree c.dom-in-rounds.ensures c.is_tree-in-rounds.ensures)
+    (no_rows c.in_ok-next.rows (sym c.len.ensures ∙ c.if-len-eq0.true) c.in_ok-next.ensures.taken)
+    c.rounds.number c.rounds.taken _ c.rounds.invariant.taken
+
+pub returns-then-len-eq0-clause-quiet : goal.returns-then-len-eq0-clause-quiet
+returns-then-len-eq0-clause-quiet g c =
+    ap (λ (s : State). removed pattern_found c.args.engine.filters c.args.engine.page.path s.page.tree)
+    (returns-then-len-eq0-clause-engine g c)
+    ∙ settled-quiet pattern_found c.args.engine.filters c.args.engine.page.path c.args.engine.page.tree
+
+pub rounds-smaller : goal.rounds-smaller
+rounds-smaller g c =
+    subst (λ (s : State). length (all s.page.tree) < length (all c.rounds.engine.page.tree)) (sym c.in_ok-next.ensures.engine)
+    (fewer c.rounds.engine (some_rows c.in_ok-next.rows c.len.result c.len.ensures c.if-len-eq0.false c.in_ok-next.ensures.taken))
+
+pub rounds-preserved : goal.rounds-preserved
+rounds-preserved g c =
+    let some = some_rows c.in_ok-next.rows c.len.result c.len.ensures c.if-len-eq0.false c.in_ok-next.ensures.taken in
+    let less : length (all c.in_ok-next.next.page.tree) < length (all c.rounds.engine.page.tree) = rounds-smaller g c in
+    record {
+      settled = ap (settled_state pattern_found) c.in_ok-next.ensures.engine ∙ settled_later c.rounds.engine some ∙ c.rounds.invariant.settled;
+      taken =
+          ap (λ (s : State). c.add_round.new.taken ++ taken_from pattern_found s.filters s.page.path (c.rounds.number + 1) (length (all s.page.tree)) s.page.tree)
+          c.in_ok-next.ensures.engine
+          ∙ taken_later c.rounds.engine some c.rounds.number c.rounds.taken c.add_round.new.taken _ c.in_ok-next.rows c.in_ok-next.ensures.taken
+          c.in_ok-add_round.ensures c.rounds.invariant.taken;
+      few = omega (arith, less, c.rounds.invariant.few);
+    }
