@@ -1,0 +1,5 @@
+pub mod Generator
+pub mod Report
+pub mod Output
+pub mod Numbers
+pub mod Laws
