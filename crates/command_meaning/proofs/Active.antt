@@ -4,10 +4,9 @@ use Rattle.std.specs.List.{list_any}
 use Rattle.std.specs.Prelude.{option_to_list}
 use Rattle.std.proofs.lemmas.List.{map-append}
 use Rattle.address_patterns.specs.declared.page.Page.{Page}
-use Rattle.filter_scope.specs.declared.scope.Scope.{Scope}
 use Rattle.filter_scope.specs.Scopes.{applies}
-use Rattle.host_names.specs.Suffixes.{Rule, rest}
-use Rattle.hostname_buckets.specs.Active.{active_by, active_of, active_with, entries_of, excepts, is_off, switched_off, switches_off}
+use Rattle.host_names.specs.Suffixes.{rest}
+use Rattle.hostname_buckets.specs.Active.{active_by, active_with, entries_of, excepts, is_off, switched_off, switches_off}
 use Rattle.list_entries.specs.declared.entry.Entry.{Entry}
 use Rattle.list_entries.specs.declared.entry.Entry.TheVariants as entry
 use Rattle.list_entries.specs.declared.entry.ListRead.{ListRead}

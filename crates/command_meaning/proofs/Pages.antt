@@ -12,10 +12,9 @@ use Rattle.selector_meaning.proofs.Unnumbered.{unnumbered_selects}
 use Rattle.selector_tree.specs.declared.filter.Action.{Action}
 use Rattle.selector_tree.specs.declared.filter.Action.TheVariants.{Hide, Remove}
 use Rattle.selector_tree.specs.declared.filter.Filter.{Filter}
-use Rattle.selector_tree.specs.declared.filter.Taken.{Taken}
 use Rattle.engine_meaning.specs.Filters.{has_action}
 use Rattle.engine_meaning.specs.Hidden.{acted_on}
-use Rattle.engine_meaning.specs.Rounds.{after_rounds, is_outermost, removed_rows, round, settled, taken, taken_from, taken_in, taken_row}
+use Rattle.engine_meaning.specs.Rounds.{after_rounds, round, taken_from, taken_in, taken_row}
 use Rattle.engine_meaning.specs.States.{State, hidden_of, settled_state, taken_of}
 use Rattle.command_meaning.specs.Numbers.{unnumbered_filter, unnumbered_state}
 

@@ -1,5 +1,5 @@
 -- The numbers of patterns have no part in what is written.
-use Rattle.std.proofs.Common.{◌≡◌, ℕ, suc, ◌+◌, ◌++◌, Bool, true, false, cond, List, [], ◌∷◌, length, map, codes, decimal, flat_map, option_map, slice_get, Option, Some, None, Result, Ok, Err, refl, sym, ap, ap₂, ◌∙◌}
+use Rattle.std.proofs.Common.{◌≡◌, ℕ, ◌+◌, ◌++◌, Bool, cond, List, [], ◌∷◌, length, map, codes, decimal, flat_map, option_map, slice_get, Option, Some, None, Result, Ok, Err, refl, ap, ap₂, ◌∙◌}
 use mathlib.Core.Path.{fun_ext}
 use Rattle.std.specs.Prelude.{count_by}
 use Rattle.std.specs.List.{fold}
@@ -9,11 +9,10 @@ use Rattle.std.proofs.lemmas.Option.{slice_get-map}
 use Rattle.cos_source.specs.Lines.{lines_of, numbered}
 use Rattle.cos_source.specs.Mark.{without_mark}
 use Rattle.cos_patterns.specs.Found.{pattern_found}
-use Rattle.page_tree.specs.Forest.{Tree, size}
+use Rattle.page_tree.specs.Forest.{size}
 use Rattle.page_tree.specs.Standings.{name}
 use Rattle.page_tree.specs.Refusals.{Refusal}
 use Rattle.host_names.specs.SuffixLines.{rules_of}
-use Rattle.hostname_buckets.specs.Active.{active_of}
 use Rattle.list_entries.specs.declared.entry.Entry.{Entry}
 use Rattle.list_entries.specs.declared.entry.Entry.TheVariants as entry
 use Rattle.list_entries.specs.declared.entry.ListRead.{ListRead}
@@ -27,14 +26,13 @@ use Rattle.mutation_script.specs.declared.mutation.ScriptLine.TheVariants as say
 use Rattle.mutation_script.specs.declared.page.PageState.{PageState}
 use Rattle.mutation_script.specs.Lines.{script_line}
 use Rattle.mutation_script.specs.Changes.{answer, change}
-use Rattle.engine_meaning.specs.States.{State, hidden_of, settled_state, taken_of}
+use Rattle.engine_meaning.specs.States.{State, hidden_of}
 use Rattle.hide_report.specs.Answers.{answer_name}
 use Rattle.hide_report.specs.Texts.{count_of, count_text, counts_text, drill_text, end_text, exceptions_text, filter_text, filters_text, head_text, hidden_line, is_exception, is_filter, is_page_option, notices_text, options_text, place_text, spaced_name, step_line, unless_brief}
 use Rattle.command_inputs.specs.declared.inputs.ApplyInputs.{ApplyInputs}
-use Rattle.command_inputs.specs.declared.inputs.Sources.{Sources}
 use Rattle.command_meaning.specs.Laws.{ApplyUnnumbered, DrillUnnumbered, ListsUnnumbered}
 use Rattle.command_meaning.specs.Numbers.{unnumbered_filter, unnumbered_list, unnumbered_state}
-use Rattle.command_meaning.specs.Report.{Drilled, Step, after_line, apply_report, by_change, drill_inputs, drilled_by, lines_texts, lists_report, lists_texts, notices_texts, opened_state, settling, steps_texts, suffixes_text, text_of_step}
+use Rattle.command_meaning.specs.Report.{Drilled, Step, after_line, by_change, drill_inputs, drilled_by, lines_texts, lists_texts, notices_texts, opened_state, settling, steps_texts, suffixes_text, text_of_step}
 use Rattle.command_meaning.proofs.Active.{active_unnumbered}
 use Rattle.command_meaning.proofs.Pages.{same_hidden, same_settled, same_taken_of}
 

@@ -3,11 +3,8 @@ use Rattle.std.specs.Prelude.{ℕ, List, [], ◌∷◌, Option, Some, None, Resu
 use Rattle.std.specs.List.{concat}
 use Rattle.cos_patterns.specs.declared.written.Asked.{Asked}
 use Rattle.cos_patterns.specs.declared.written.Written.{Written}
-use Rattle.page_tree.specs.Forest.{Tree}
 use Rattle.command_words.specs.declared.command.Command.{Command}
 use Rattle.command_words.specs.declared.command.Command.TheVariants as command
-use Rattle.command_inputs.specs.declared.inputs.ApplyInputs.{ApplyInputs}
-use Rattle.command_inputs.specs.declared.inputs.Sources.{Sources}
 use Rattle.command_inputs.specs.declared.status.Status.{Status}
 use Rattle.command_inputs.specs.declared.status.Status.TheVariants.{Done, Usage}
 use Rattle.command_inputs.specs.Due.{Due, Files, at_once, ◌>>=◌}

@@ -15,7 +15,6 @@ use Rattle.list_entries.specs.declared.notice.Notice.{Notice}
 use Rattle.list_entries.specs.declared.notice.Notice.TheVariants as notice
 use Rattle.list_reader.specs.Entries.{entries_in, notices_in}
 use Rattle.selector_spelling.specs.declared.finding.Cause.TheVariants as cause
-use Rattle.selector_tree.specs.declared.filter.Filter.{Filter}
 use Rattle.selector_tree.specs.declared.filter.Taken.{Taken}
 use Rattle.mutation_script.specs.declared.answer.Answer.{Answer}
 use Rattle.mutation_script.specs.declared.answer.Answer.TheVariants.{Opened}
