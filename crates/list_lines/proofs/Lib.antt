@@ -1,4 +1,5 @@
 pub mod ConditionLaws
+mod Examples
 pub mod LineLaws
 pub mod OptionLaws
 pub mod PartLaws
