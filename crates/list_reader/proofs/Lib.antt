@@ -2,6 +2,7 @@ pub mod BadHosts
 mod Examples
 pub mod Forms
 pub mod Gives
+pub mod Laws
 pub mod LineReads
 pub mod ListSteps
 pub mod Lists

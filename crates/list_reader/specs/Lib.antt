@@ -4,3 +4,4 @@ pub mod Meanings
 pub mod Entries
 pub mod Unclosed
 pub mod LineReads
+pub mod Laws

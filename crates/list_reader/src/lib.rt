@@ -2,7 +2,8 @@
 //! its cause.
 //!
 //! `specs/Entries.antt` says what a list gives. The reader of lines that hide alone, which the program uses until its command
-//! reads whole lists, has its definitions in `Lines.antt` and `Filters.antt`.
+//! reads whole lists, has its definitions in `Lines.antt` and `Filters.antt`. `Laws.antt` says that a noted line leaves the
+//! others alone.
 #![tactic(auto)]
 
 mod entries;
@@ -10,11 +11,13 @@ mod form;
 mod hiding;
 mod line;
 mod list;
+mod noted;
 mod notice;
 mod unclosed;
 
 pub use hiding::{HidingLines, read_hiding_lines};
 pub use list::read_list;
+pub use noted::state;
 pub use notice::{Notice, Notices};
 
 #[cfg(test)]
