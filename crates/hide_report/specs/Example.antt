@@ -3,7 +3,8 @@ use Rattle.std.specs.Prelude.{ℕ, ◌≡◌, Bool, true, false, List, [], ◌�
 use Rattle.std.specs.Fmt.{digits}
 use Rattle.page_tree.specs.Forest.{element, text, empty, node, Tree}
 use Rattle.page_tree.specs.Standings.{elements, standing}
-use Rattle.selector_tree.specs.declared.filter.Action.TheVariants.{Hide}
+use Rattle.selector_tree.specs.declared.filter.Action.{Action}
+use Rattle.selector_tree.specs.declared.filter.Action.TheVariants.{Hide, Remove}
 use Rattle.selector_tree.specs.declared.filter.Filter.{Filter}
 use Rattle.selector_tree.specs.declared.filter.Taken.{Taken}
 use Rattle.selector_spelling.specs.declared.finding.Kind.TheVariants as kind
@@ -33,11 +34,11 @@ suffix_notice = refl
 
 -- `div:empty:remove()` and `p`, on <div><div><div></div></div></div><p>t</p>: three elements go, one a round, and the last is hidden
 
-abbrev filter_of : ℕ → List ℕ → Filter
-filter_of line canonical = record { list = 1; line = line; selector = []; action = Hide; canonical = canonical }
+abbrev filter_of : ℕ → Action → List ℕ → Filter
+filter_of line action canonical = record { list = 1; line = line; selector = []; action = action; canonical = canonical }
 
 abbrev active : List Filter
-active = filter_of 1 (codes "div:empty:remove()") ∷ filter_of 2 (codes "p") ∷ []
+active = filter_of 1 Remove (codes "div:empty:remove()") ∷ filter_of 2 Hide (codes "p") ∷ []
 
 abbrev address : List ℕ
 address = codes "https://example.com/"
@@ -95,7 +96,7 @@ after_ten_lines = refl
 -- two lists, one with a filter and an exception, the other with a filter and a page option
 
 abbrev a_filter : Entry
-a_filter = entry.Filter (filter_of 1 (codes "p")) (record { items = [] })
+a_filter = entry.Filter (filter_of 1 Hide (codes "p")) (record { items = [] })
 
 abbrev an_exception : Entry
 an_exception = entry.Exception (codes "p") (record { items = [] })

@@ -10,8 +10,8 @@ mod names;
 mod texts;
 mod writing;
 
-pub use mutation_script::Answer;
 pub use counts::DrillCounts;
+pub use mutation_script::Answer;
 pub use writing::{
     ReportError, write_counts, write_drill, write_end, write_head, write_notices, write_step,
 };

@@ -93,7 +93,7 @@ pub fn write_step<O: Sink>(
     requires { IsAnswer answer.now }
     ensures { Reports O.tells O.written O.faults out.old out.new
         (step_text number (answer_name answer.now) dom.now active.now taken.now
-            (map pair_of rows.now) brief) result }
+        (map pair_of rows.now) brief) result }
 {
     let answer = answer_name(alloc, *answer)?;
     let mut text = texts::step_line(alloc, number, answer.as_str())?;
@@ -111,11 +111,7 @@ pub fn write_end<O: Sink>(alloc: Global, out: &mut O, lines: u32) -> Result<(), 
 }
 
 /// Writes how many filters, exceptions and page options the lists have together.
-pub fn write_counts<O: Sink>(
-    alloc: Global,
-    out: &mut O,
-    lists: &Lists,
-) -> Result<(), ReportError>
+pub fn write_counts<O: Sink>(alloc: Global, out: &mut O, lists: &Lists) -> Result<(), ReportError>
     ensures { Reports O.tells O.written O.faults out.old out.new (counts_text lists.now) result }
 {
     let text = counts::counts_text(alloc, lists.as_slice())?;
