@@ -1,15 +1,15 @@
 -- What a change brings into the tree.
-use Rattle.std.proofs.Common.{◌≡◌, ℕ, ◌+◌, ◌<◌, Bool, true, false, ◌&&◌, ◌==◌, not, List, [], ◌∷◌, Some, refl, sym, ap, subst, ◌∙◌, arith}
-use Rattle.std.proofs.lemmas.Bool.{eqb-true, eq-eqb, false≢true}
+use Rattle.std.proofs.Common.{◌≡◌, ℕ, ◌+◌, ◌<◌, Bool, true, false, ◌&&◌, ◌==◌, not, List, [], ◌∷◌, Some, refl, sym, ap, ◌∙◌}
+use Rattle.std.proofs.lemmas.Bool.{eqb-true, false≢true}
 use Rattle.page_tree.specs.Forest.{Forest, empty, node, Tree, same, count, find, children, parent_in}
-use Rattle.page_tree.specs.Edits.{pruned, alone, subtree}
+use Rattle.page_tree.specs.Edits.{alone}
 use Rattle.page_tree.specs.Standings.{all}
 use Rattle.page_tree.specs.Directions.{is_in}
 use Rattle.selector_meaning.specs.Texts.{Bytes}
 use Rattle.sensor_meaning.specs.declared.change.Change.{Change}
 use Rattle.sensor_meaning.specs.declared.change.Change.TheVariants.{Attr as AttrOf, Chars, Came, Went, Moved, Path as PathOf}
 use Rattle.sensor_meaning.specs.Changes.{IsChild, Becomes, IsWellFormed}
-use Rattle.sensor_meaning.specs.Dirty.{brought, is_under}
+use Rattle.sensor_meaning.specs.Dirty.{brought}
 use Rattle.sensor_laws.proofs.Any.{here}
 use Rattle.sensor_laws.proofs.Events.{cut}
 use Rattle.sensor_laws.proofs.PartFrames.{in_left}
@@ -22,7 +22,7 @@ gone_of : (g : Bool) → (not g && true) ≡ false → g ≡ true
 gone_of true h = refl
 gone_of false h = absurd (false≢true (sym h))
 
-clash : {A : Type 0} (b : Bool) → b ≡ false → b ≡ true → A
+pub clash : {A : Type 0} (b : Bool) → b ≡ false → b ≡ true → A
 clash b p q = absurd (false≢true (sym p ∙ q))
 
 abbrev Whole : Change → Type 0
@@ -50,13 +50,13 @@ came_comes p tops t u path route a b c x old new =
     (gone_of (gone x)
     (ap (λ d. not (gone x) && d) (sym new) ∙ sym (in_left t.next (is_in tops) gone p u (numbered u b) part x) ∙ ap (λ (w : Tree). is_in (all w) x) is ∙ old))
 
-abbrev only : ℕ → ℕ → Bool
+abbrev pub only : ℕ → ℕ → Bool
 only n k = k == n
 
-one_child : (n p : ℕ) (t : Tree) → IsChild n p t → (x : ℕ) → only n x ≡ true → 0 < count x t.nodes → parent_in x 0 t.nodes ≡ Some p
+pub one_child : (n p : ℕ) (t : Tree) → IsChild n p t → (x : ℕ) → only n x ≡ true → 0 < count x t.nodes → parent_in x 0 t.nodes ≡ Some p
 one_child n p t held x h i = ap (λ (y : ℕ). parent_in y 0 t.nodes) (eqb-true x n h) ∙ held
 
-off : (b : Bool) → (b && false) ≡ false
+pub off : (b : Bool) → (b && false) ≡ false
 off true = refl
 off false = refl
 

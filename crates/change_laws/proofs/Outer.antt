@@ -1,13 +1,13 @@
 -- A selector that may be asked has `:others()` in its own chains alone.
-use Rattle.std.proofs.Common.{◌≡◌, Bool, true, false, ◌&&◌, ◌||◌, not, List, [], ◌∷◌, map, refl, sym, ap, ap₂, subst, ◌∙◌}
+use Rattle.std.proofs.Common.{◌≡◌, Bool, true, false, ◌||◌, not, List, [], ◌∷◌, map, refl, sym, ap, ap₂, subst, ◌∙◌}
 use Rattle.std.specs.List.{list_all, list_any}
 use Rattle.std.proofs.lemmas.Bool.{and_parts}
 use Rattle.cos_patterns.specs.declared.written.Written.{Written}
-use Rattle.selector_tree.specs.declared.selector.Step.{Step, fold-Step, out-Step}
+use Rattle.selector_tree.specs.declared.selector.Step.{Step, out-Step}
 use Rattle.selector_tree.specs.declared.selector.Step.TheOpen.{Step-F, Test-F}
 use Rattle.selector_tree.specs.declared.selector.Step.TheFolds.{fold-roll-Step, fold-roll-Test, map-Step, map-Test, ind-Step, ind-Test}
 use Rattle.selector_tree.specs.declared.selector.Step.TheViews.{roll-Step, roll-Test, roll-out-Step}
-use Rattle.selector_tree.specs.declared.selector.Test.{Test, fold-Test}
+use Rattle.selector_tree.specs.declared.selector.Test.{Test}
 use Rattle.proper_filters.specs.Proper.{inner_step, inner_test, is_inner, is_inner_test, own_step, is_own, are_own, is_proper}
 use Rattle.sensor_meaning.specs.Nested.{Depth, some_any, others_in_step, others_in_test, step_others, test_others, is_outer}
 

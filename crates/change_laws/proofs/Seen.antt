@@ -1,6 +1,5 @@
 -- A change makes dirty what it touches, and what came.
-use Rattle.std.proofs.Common.{◌≡◌, ℕ, Bool, true, false, ◌&&◌, ◌||◌, List, refl, sym, ap, ◌∙◌}
-use Rattle.std.proofs.Math.Bool as bool
+use Rattle.std.proofs.Common.{◌||◌, ◌∙◌}
 use Rattle.page_tree.specs.Standings.{all}
 use Rattle.page_tree.specs.Directions.{is_in}
 use Rattle.sensor_meaning.specs.Dirty.{brought, is_reached}

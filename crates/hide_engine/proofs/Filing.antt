@@ -5,10 +5,6 @@ use Rattle.std.specs.List.{list_any}
 use Rattle.std.proofs.Math.Bool as bool
 use Rattle.std.proofs.lemmas.Bool.{cases_Bool, eqb-true}
 use Rattle.std.proofs.lemmas.Bool.Decides.{nat_tests}
-use Rattle.std.proofs.lemmas.List.Elements.{All-get_or}
-use Rattle.cos_patterns.specs.declared.written.Written.{Written}
-use Rattle.proper_filters.specs.Proper.{is_proper}
-use Rattle.engine_meaning.specs.Filters.{AreAskable, MayBeAsked}
 use Rattle.selector_tree.specs.declared.filter.Filter.{Filter}
 use Rattle.selector_tree.specs.declared.selector.Step.{Step}
 use Rattle.procedural_ops.specs.Told.{selector_at}
@@ -76,10 +72,3 @@ all_filed filters keyed h k f = h k f ∙ within filters f
     within [] f = bool.and-false (nat_lt f 0)
     within (g ∷ gs) zero = ap (λ b. b && list_any (same_key k) (map key_of_chain g.selector)) (first (length gs))
     within (g ∷ gs) (suc f) = ap (λ b. b && list_any (same_key k) (map key_of_chain (selector_at gs f))) (past (length gs) f) ∙ within gs f
-
-
--- each filter may be asked
-pub proper_at : (patterns : List Written) (filters : List Filter) → AreAskable patterns filters → (f : ℕ) → f < length filters → is_proper patterns (selector_at filters f) ≡ true
-proper_at patterns [] h f less = absurd (omega (arith, less))
-proper_at patterns (g ∷ gs) h f less =
-    ap (is_proper patterns) (selector_there (g ∷ gs) f g less) ∙ (All-get_or (MayBeAsked patterns) (g ∷ gs) f g less h.proper).0
