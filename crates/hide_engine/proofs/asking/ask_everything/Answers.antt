@@ -1,0 +1,16 @@
+use Rattle.std.proofs.Common.{◌≡◌, IfOk, ℕ, List, subst}
+use Rattle.page_tree.specs.Standings.{all}
+use Rattle.cos_patterns.specs.Found.{pattern_found}
+use Rattle.selector_meaning.specs.Meaning.{selects}
+use Rattle.procedural_ops.specs.Told.{selector_at}
+use Rattle.kept_marks.specs.Kept.{is_marked}
+use Rattle.retest_laws.specs.Pending.{IsExact}
+use Rattle.hide_engine.proofs.asking.ask_everything.Goals as goal
+
+pub returns-clause-exact : goal.returns-clause-exact
+returns-clause-exact g c =
+    let t = c.args.page.now.tree in
+    subst
+    (λ (path : List ℕ). IfOk c.start.result
+    (λ marks. IsExact (all t) (λ f x. selects pattern_found t path (selector_at c.args.filters.now.active f) x) (is_marked marks)))
+    c.as_str.ensures c.start.ensures.exact
