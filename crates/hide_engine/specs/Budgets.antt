@@ -1,5 +1,5 @@
 -- How many questions an event may take: so many pairs of a filter and an element that carries a key of it.
-use Rattle.std.specs.Prelude.{ℕ, Bool, true, length}
+use Rattle.std.specs.Prelude.{ℕ, true, length}
 use Rattle.page_tree.specs.Standings.{all}
 use Rattle.procedural_ops.specs.Told.{selector_at}
 use Rattle.generic_tables.specs.Keys.{is_keyed}

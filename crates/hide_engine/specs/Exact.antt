@@ -1,5 +1,5 @@
 -- When marks are the answers of filters on a page. A filter goes by its place in the list of filters.
-use Rattle.std.specs.Prelude.{◌≡◌, ℕ, Bool, true, false, ◌&&◌, List, map, nat_lt}
+use Rattle.std.specs.Prelude.{◌≡◌, ℕ, Bool, ◌&&◌, List, map, nat_lt}
 use Rattle.std.specs.List.{list_any}
 use Rattle.cos_patterns.specs.declared.written.Written.{Written}
 use Rattle.cos_patterns.specs.Found.{pattern_found}

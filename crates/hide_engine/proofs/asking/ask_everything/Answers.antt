@@ -1,4 +1,4 @@
-use Rattle.std.proofs.Common.{◌≡◌, IfOk, ℕ, List, subst}
+use Rattle.std.proofs.Common.{IfOk, ℕ, List, subst}
 use Rattle.page_tree.specs.Standings.{all}
 use Rattle.cos_patterns.specs.Found.{pattern_found}
 use Rattle.selector_meaning.specs.Meaning.{selects}

@@ -1,4 +1,4 @@
-use Rattle.std.proofs.Common.{◌≡◌, ◌∙◌, List, length, get_or, subst, sym, ap, arith}
+use Rattle.std.proofs.Common.{◌∙◌, List, get_or, subst, sym, ap, arith}
 use Rattle.selector_tree.specs.declared.filter.Filter.{Filter}
 use Rattle.hide_engine.specs.Exact.{AreFiledBefore}
 use Rattle.hide_engine.proofs.Filing.{selector_there, one_filed, all_filed}
