@@ -1,5 +1,5 @@
 -- The rows of hidden elements, one element after another.
-use Rattle.std.proofs.Common.{◌≡◌, ◌++◌, ℕ, Bool, true, List, [], ◌∷◌, map, sym, ap, ◌∙◌, append_assoc}
+use Rattle.std.proofs.Common.{◌≡◌, ◌++◌, ℕ, Bool, List, [], ◌∷◌, sym, ap, ◌∙◌, append_assoc}
 use Rattle.selector_meaning.specs.Hidden.{places_from, with_row, rows_of}
 use Rattle.selector_meaning.proofs.Rows.{with_row-append}
 

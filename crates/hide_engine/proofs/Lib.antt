@@ -1,6 +1,6 @@
-mod Asked
 mod Places
 mod Hiding
 mod Taking
 mod Names
 mod Events
+mod Filing

@@ -1,24 +1,22 @@
 -- The marks of an element, by action, are the places of the filters of that action that select it.
-use Rattle.std.proofs.Common.{◌≡◌, ℕ, suc, zero, ◌<◌, ◌≤◌, ◌+◌, Bool, true, false, ◌&&◌, ◌||◌, ◌==◌, cond, List, [], ◌∷◌, map, filter, length, Option, Some, None, refl, sym, ap, ap₂, ◌∙◌, inl, inr, ◌⊎◌, arith}
+use Rattle.std.proofs.Common.{◌≡◌, ℕ, suc, zero, ◌<◌, ◌≤◌, ◌+◌, Bool, true, false, ◌&&◌, ◌||◌, ◌==◌, cond, List, [], ◌∷◌, Option, Some, None, refl, sym, ap, ap₂, ◌∙◌, inl, inr, ◌⊎◌, arith}
 use Rattle.std.specs.Prelude.{slice_get, option_map, unwrap_or}
 use Rattle.std.specs.Option.{option_map_or}
-use Rattle.std.specs.List.{list_any}
 use Rattle.std.proofs.Math.Bool as bool
 use Rattle.std.proofs.lemmas.Bool.{cases_Bool, eqb-true, eq-eqb, ne_eqb, or_from, cases_order}
 use Rattle.cos_patterns.specs.Found.{pattern_found}
 use Rattle.page_tree.specs.Standings.{all}
 use Rattle.page_tree.specs.Directions.{is_in}
 use Rattle.page_tree.proofs.Members.{is_in-filter}
-use Rattle.kept_marks.specs.Kept.{row, is_marked}
+use Rattle.kept_marks.specs.Kept.{row}
 use Rattle.kept_marks.specs.Rising.{IsAbove, IsRising}
 use Rattle.kept_marks.proofs.Rising.{filtered}
 use Rattle.selector_tree.specs.declared.filter.Action.{Action}
 use Rattle.selector_tree.specs.declared.filter.Filter.{Filter}
-use Rattle.selector_tree.specs.declared.selector.Step.{Step}
-use Rattle.selector_meaning.specs.Hidden.{places_from, with_row, rows_of}
+use Rattle.selector_meaning.specs.Hidden.{places_from}
 use Rattle.selector_meaning.specs.Meaning.{selects}
 use Rattle.engine_meaning.specs.Filters.{has_action}
-use Rattle.engine_meaning.specs.Hidden.{acts_on, acted_on}
+use Rattle.engine_meaning.specs.Hidden.{acts_on}
 use Rattle.engine_meaning.specs.States.{State}
 use Rattle.hide_engine.specs.Exact.{is_selected, AreExact}
 use Rattle.hide_engine.specs.Chosen.{acts_at, chosen}

@@ -1,18 +1,18 @@
 -- The rows of a round, one element after another, and what is left behind it.
-use Rattle.std.proofs.Common.{◌≡◌, ℕ, suc, zero, ◌<◌, ◌≤◌, ◌+◌, ◌++◌, Bool, true, false, not, ◌&&◌, ◌||◌, ◌==◌, cond, List, [], ◌∷◌, map, filter, length, Option, Some, None, Result, Ok, Err, IsOk, OnOk, OnErr, MatchOption, refl, sym, ap, ap₂, ◌∙◌, inl, inr, ◌⊎◌, arith, append_assoc, take, get_or}
+use Rattle.std.proofs.Common.{◌≡◌, ℕ, ◌<◌, ◌+◌, ◌++◌, Bool, true, false, not, ◌&&◌, ◌||◌, ◌==◌, cond, List, [], ◌∷◌, map, filter, length, Option, Some, None, Result, Ok, Err, IsOk, OnOk, OnErr, MatchOption, refl, sym, ap, ◌∙◌, inl, inr, ◌⊎◌, arith, append_assoc, take, get_or}
 use Rattle.std.specs.List.{list_any}
 use Rattle.std.proofs.Math.Bool as bool
-use Rattle.std.proofs.lemmas.Bool.{cases_Bool, cases_eq, eqb-true, or_from, ne_eqb}
+use Rattle.std.proofs.lemmas.Bool.{cases_Bool, cases_eq, eqb-true, ne_eqb}
 use Rattle.std.proofs.lemmas.List.{map-append, take_more}
 use Rattle.std.specs.Prelude.{nat_lt}
 use Rattle.std.proofs.lemmas.Bool.Decides.{nat_tests}
 use Rattle.std.proofs.lemmas.List.Elements.{filter-append}
-use Rattle.page_tree.specs.Forest.{Forest, empty, or_else, Tree, rooted, count}
+use Rattle.page_tree.specs.Forest.{Forest, empty, or_else, Tree, count}
 use Rattle.page_tree.specs.Trees.{IsTree}
 use Rattle.page_tree.specs.Standings.{all, above}
 use Rattle.page_tree.specs.Directions.{is_in}
-use Rattle.page_tree.specs.Edits.{without, detached}
-use Rattle.page_tree.specs.Refusals.{Refusal, detach_refused, document_refused, node_among}
+use Rattle.page_tree.specs.Edits.{detached}
+use Rattle.page_tree.specs.Refusals.{Refusal, detach_refused, node_among}
 use Rattle.page_tree.proofs.Finding.{found}
 use Rattle.page_tree.proofs.Totals.{without-none}
 use Rattle.dom_arena.specs.declared.refusals.DomError.{DomError}
@@ -29,7 +29,7 @@ use Rattle.engine_meaning.specs.Hidden.{acts_on}
 use Rattle.engine_meaning.specs.Rounds.{is_outermost, taken_row, removed, without_each}
 use Rattle.engine_meaning.specs.States.{State}
 use Rattle.hide_engine.specs.Exact.{AreExact}
-use Rattle.hide_engine.specs.Chosen.{acts_at, chosen}
+use Rattle.hide_engine.specs.Chosen.{acts_at}
 use Rattle.hide_engine.specs.Removing.{taken_rows}
 use Rattle.hide_engine.proofs.Places.{chosen_places}
 

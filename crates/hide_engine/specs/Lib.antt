@@ -1,4 +1,4 @@
 pub mod Exact
-pub mod Asking
 pub mod Chosen
 pub mod Removing
+pub mod Budgets

@@ -1,5 +1,6 @@
 ghost use Rattle.std.specs.Prelude.{◌≡◌, ◌+◌, ◌≤◌, [], map, IfOk, IsErr};
 ghost use Rattle.cos_patterns.specs.Found.{pattern_found};
+ghost use Rattle.hide_engine.specs.Budgets.{start_budget};
 ghost use Rattle.engine_meaning.specs.Filters.{AreAskable};
 ghost use Rattle.engine_meaning.specs.Hidden.{pair_of};
 ghost use Rattle.engine_meaning.specs.States.{mutated, hidden_of, rounded, round_of};
@@ -7,7 +8,7 @@ ghost use Rattle.mutation_script.specs.Changes.{change, outcome_of};
 ghost use Rattle.mutation_script.specs.Inserted.{inserted};
 ghost use Rattle.hide_engine.specs.Exact.{AreExact};
 
-use crate::asking::{Pending, retest};
+use crate::asking::{Pending, ask_everything, retest};
 use crate::filter_set::FilterSet;
 use crate::removing::{take_out_all, taken_rows};
 use crate::rows::hidden_rows;
@@ -46,12 +47,14 @@ impl Model for Engine {
     ghost view = { λ engine. record { page = engine.page; filters = engine.filters.active } };
 
     ghost invariant = { λ engine.
-        IsKept (record { page = engine.page; filters = engine.filters.active }) engine.filters.table.patterns engine.marks };
+        IsKept (record { page = engine.page; filters = engine.filters.active }) engine.filters.table.patterns engine.filters.keyed
+        engine.marks };
 }
 
 impl Engine {
     /// An engine for a page and its filters, whose patterns the table has. Each question whether a filter selects an element
-    /// counts as one of the `checks`, and each single test that is asked for it as one of the `parts`; so in each call.
+    /// counts as one of the `checks`, and each single test that is asked for it as one of the `parts`; so in each call. A
+    /// filter is asked of the elements that carry a key of it alone.
     pub fn start<L: Ledger, P: Ledger>(
         alloc: Global,
         page: PageState,
@@ -61,20 +64,11 @@ impl Engine {
         parts: &mut Steps<P>,
     ) -> Result<Engine, AllocError>
         requires { AreAskable table.patterns active }
-        ensures { IfOk result (λ engine. engine ≡ record { page = page; filters = active }) }
+        ensures engine { IfOk result (λ engine. engine ≡ record { page = page; filters = active }) }
+        ensures checks { checks.new ≤ checks.old + start_budget (record { page = page; filters = active }) }
     {
-        let filters = FilterSet { table, active };
-        let mut pending = Pending::new();
-        pending.note();
-        let marks = retest(
-            alloc,
-            &page,
-            &filters,
-            &pending,
-            Marks::new(alloc),
-            checks,
-            parts,
-        )?;
+        let filters = FilterSet::of(alloc, table, active)?;
+        let marks = ask_everything(alloc, &page, &filters, checks, parts)?;
         Ok(Engine {
             page,
             filters,

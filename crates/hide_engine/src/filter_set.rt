@@ -1,9 +1,49 @@
-use cos_patterns::PatternTable;
-use selector_tree::Active;
+ghost use Rattle.std.specs.Prelude.{◌≡◌, ◌<◌, ◌^◌, length, IfOk};
+ghost use Rattle.engine_meaning.specs.Filters.{AreAskable};
+ghost use Rattle.hide_engine.specs.Exact.{AreFiled};
 
-/// The filters of an engine, with the table of their patterns.
+use cos_patterns::PatternTable;
+use generic_tables::FilterTable;
+use selector_tree::Active;
+use std::alloc::{AllocError, Global};
+
+/// The filters of an engine, with the table of their patterns, and by the keys of their chains.
 #[derive(Drop)]
 pub(crate) struct FilterSet {
     pub(crate) table: PatternTable,
     pub(crate) active: Active,
+    pub(crate) keyed: FilterTable,
+}
+
+impl FilterSet {
+    /// Some filters whose patterns the table has.
+    pub(crate) fn of(
+        alloc: Global,
+        table: PatternTable,
+        active: Active,
+    ) -> Result<FilterSet, AllocError>
+        requires { AreAskable table.patterns active }
+        ensures active { IfOk result (λ set. set.active ≡ active) }
+        ensures askable { IfOk result (λ set. AreAskable set.table.patterns set.active) }
+        ensures filed { IfOk result (λ set. AreFiled set.active set.keyed) }
+    {
+        let keyed = filed(alloc, &active)?;
+        Ok(FilterSet {
+            table,
+            active,
+            keyed,
+        })
+    }
+}
+
+// The filters by the keys of their chains.
+fn filed(alloc: Global, active: &Active) -> Result<FilterTable, AllocError>
+    requires { length active.now < 2 ^ 32 }
+    ensures { IfOk result (λ keyed. AreFiled active.now keyed) }
+{
+    let mut keyed = FilterTable::new(alloc);
+    for place in 0..active.len() as u32 {
+        keyed.enter(place, &active.as_slice()[place as usize])?;
+    }
+    Ok(keyed)
 }

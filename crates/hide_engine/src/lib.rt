@@ -2,7 +2,7 @@
 //! which elements are hidden.
 //!
 //! Each event makes single changes of the page and notes what has to be asked again; then that is asked, and the marks are
-//! exact once more. For now a note stands for every filter on every element.
+//! exact once more. A filter is asked of the elements that carry a key of it. For now a note stands for every element.
 #![tactic(auto)]
 
 mod asking;

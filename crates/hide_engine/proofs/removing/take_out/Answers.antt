@@ -1,6 +1,5 @@
-use Rattle.std.proofs.Common.{◌≡◌, ap}
+use Rattle.std.proofs.Common.{ap}
 use Rattle.page_tree.specs.Forest.{Tree}
-use Rattle.mutation_script.specs.declared.page.PageState.{PageState}
 use Rattle.hide_engine.proofs.Taking.{taken_out}
 use Rattle.hide_engine.proofs.removing.take_out.Goals as goal
 

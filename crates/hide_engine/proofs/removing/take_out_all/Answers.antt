@@ -1,4 +1,4 @@
-use Rattle.std.proofs.Common.{◌≡◌, ◌<◌, length, sym, ap, ◌∙◌, arith}
+use Rattle.std.proofs.Common.{◌<◌, length, sym, ap, ◌∙◌, arith}
 use Rattle.page_tree.specs.Forest.{Tree}
 use Rattle.page_tree.specs.Edits.{detached}
 use Rattle.mutation_script.specs.declared.page.PageState.{PageState}

@@ -1,4 +1,4 @@
-use Rattle.std.proofs.Common.{◌≡◌, ℕ, List, map, ap, sym, subst, ◌∙◌}
+use Rattle.std.proofs.Common.{◌≡◌, List, map, ap, sym, subst, ◌∙◌}
 use Rattle.page_tree.specs.Forest.{Tree}
 use Rattle.cos_patterns.specs.Found.{pattern_found}
 use Rattle.mutation_script.specs.declared.page.PageState.{PageState}
