@@ -11,7 +11,7 @@ fn page(alloc: Global) -> Result<Dom, DomError> {
     let mut dom = Dom::new(alloc)?;
     let name = Text::of(alloc, "p")?;
     let attrs = Attrs::new(alloc);
-    dom.append(0, NewNode::Element { name, attrs })?;
+    dom.add(0, 0, NewNode::Element { name, attrs })?;
     Ok(dom)
 }
 
