@@ -59,6 +59,7 @@ pub fn read_lists<S: Shelf>(
         (lists_due 1 FILE_LIMIT names.now) result }
     ensures kinds { IfErr result IsFileError }
     ensures within { IfOk result (λ lists. sum_by length lists ≤ FILE_LIMIT) }
+    ensures few { IfOk result (λ lists. length lists ≤ length names.now) }
 {
     let mut lists = Listed::new(alloc);
     let mut room = FILE_LIMIT;

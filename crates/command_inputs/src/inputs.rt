@@ -42,6 +42,8 @@ pub fn read_lists<S: Shelf>(alloc: Global, words: &Lists, shelf: &mut S) -> Resu
         (lists_inputs words.now) result }
     ensures kinds { IfErr result IsFileError }
     ensures within { IfOk result (λ sources. sum_by length sources.lists ≤ FILE_LIMIT) }
+    ensures few { IfOk result (λ sources. length sources.lists ≤ LIST_LIMIT) }
+    ensures suffixes { IfOk result (λ sources. length sources.suffixes ≤ FILE_LIMIT) }
 {
     if LIST_LIMIT < words.lists.len() {
         return Err(Status::Refused(InputRefusal::TooManyLists));
@@ -61,6 +63,8 @@ pub fn read_apply<S: Shelf, M: Maker>(
         (apply_inputs words.now) result }
     ensures kinds { IfErr result IsInputError }
     ensures within { IfOk result (λ inputs. sum_by length inputs.sources.lists ≤ FILE_LIMIT) }
+    ensures few { IfOk result (λ inputs. length inputs.sources.lists ≤ LIST_LIMIT) }
+    ensures suffixes { IfOk result (λ inputs. length inputs.sources.suffixes ≤ FILE_LIMIT) }
     ensures numbers { IfOk result (λ inputs. inputs.tree.next ≤ FILE_LIMIT + 1) }
     ensures script { IfOk result (λ inputs. length inputs.script ≤ FILE_LIMIT) }
     // The address is refused for size only where the maker says so, which then is the one text that it refused.
@@ -88,6 +92,8 @@ fn read_files<S: Shelf>(
         (page_inputs words.now page) result }
     ensures kinds { IfErr result IsFileError }
     ensures within { IfOk result (λ inputs. sum_by length inputs.sources.lists ≤ FILE_LIMIT) }
+    ensures few { IfOk result (λ inputs. length inputs.sources.lists ≤ LIST_LIMIT) }
+    ensures suffixes { IfOk result (λ inputs. length inputs.sources.suffixes ≤ FILE_LIMIT) }
     ensures numbers { IfOk result (λ inputs. inputs.tree.next ≤ FILE_LIMIT + 1) }
     ensures script { IfOk result (λ inputs. length inputs.script ≤ FILE_LIMIT) }
 {
@@ -114,6 +120,8 @@ fn read_sources<S: Shelf>(
         (sources_due suffixes.now lists.now) result }
     ensures kinds { IfErr result IsFileError }
     ensures within { IfOk result (λ sources. sum_by length sources.lists ≤ FILE_LIMIT) }
+    ensures few { IfOk result (λ sources. length sources.lists ≤ LIST_LIMIT) }
+    ensures suffixes { IfOk result (λ sources. length sources.suffixes ≤ FILE_LIMIT) }
 {
     let suffixes = files::read_optional(alloc, shelf, File::Suffixes, suffixes)?;
     let lists = files::read_lists(alloc, shelf, lists)?;

@@ -11,4 +11,6 @@ invariant-names g l =
       decides : DecidesAll s.tells s.files s.begun s.faults l.fn.shelf l.shelf l.names l.lists l.number l.room (drop l.name-index l.names);
       room : l.room + sum_by length l.lists ≡ FILE_LIMIT;
       number : l.number ≡ l.name-index + 1;
+      count : length l.lists ≡ l.name-index;
+      few : l.name-index ≤ length l.names;
     }
