@@ -1,7 +1,7 @@
 //! The page, the list and the script of a drill, made for its size.
 #![tactic(auto)]
 
-ghost use Rattle.std.specs.Prelude.{◌≡◌, ◌≤◌, IfOk, string_bytes};
+ghost use Rattle.std.specs.Prelude.{◌≡◌, ◌≤◌, ◌*◌, IfOk, length, string_bytes};
 ghost use Rattle.command_meaning.specs.Generator.{drill_list, drill_page, drill_script};
 
 use std::alloc::{AllocError, Global};
@@ -12,8 +12,8 @@ use std::alloc::{AllocError, Global};
 ///
 /// Only want of memory.
 pub fn drill_page(alloc: Global, number: u16) -> Result<String, AllocError>
-    requires { number ≤ 2000 }
     ensures { IfOk result (λ page. string_bytes page ≡ drill_page number) }
+    ensures size { IfOk result (λ page. length (string_bytes page) ≤ 200 * number) }
 {
     Err(AllocError)
 }
@@ -31,8 +31,8 @@ pub fn drill_list() -> &'static str
 ///
 /// Only want of memory.
 pub fn drill_script(alloc: Global, number: u16) -> Result<String, AllocError>
-    requires { number ≤ 2000 }
     ensures { IfOk result (λ script. string_bytes script ≡ drill_script number) }
+    ensures size { IfOk result (λ script. length (string_bytes script) ≤ 200 * number) }
 {
     Err(AllocError)
 }
