@@ -1,8 +1,9 @@
 // The words that the program is given, and how it ends.
 ghost use Rattle.std.specs.Prelude.{◌≡◌};
-ghost use Rattle.cosmetic_top.specs.Answers.{exit_status};
+ghost use Rattle.cosmetic_top.specs.Statuses.{exit_status, status_of};
 
-use crate::{File, InputRefusal, Status};
+use command_inputs::{File, InputRefusal, Status};
+use hide_report::ReportError;
 use std::alloc::Global;
 use std::rt::Env;
 use std::{env, io};
@@ -38,16 +39,37 @@ pub fn tell(rt: &impl Eprint, status: Status) {
 
 fn tell_refusal(rt: &impl Eprint, refusal: InputRefusal) -> io::Result<()> {
     match refusal {
-        InputRefusal::TooLong(File::List(number)) => {
-            eprintln!(rt; "cosmetic: refused: list {number} too long")
+        InputRefusal::TooManyLists => rt.eprintln("cosmetic: refused: more than 32 lists"),
+        InputRefusal::AddressTooLong => {
+            rt.eprintln("cosmetic: refused: address past 65536 bytes")
         }
-        InputRefusal::TooLong(File::Page) => rt.eprintln("cosmetic: refused: page too long"),
-        InputRefusal::TooLong(File::Script) => rt.eprintln("cosmetic: refused: script too long"),
+        InputRefusal::BadAddress => rt.eprintln("cosmetic: refused: not an address"),
+        InputRefusal::AddressTooLarge => rt.eprintln("cosmetic: refused: address too large"),
+        InputRefusal::TooLong(file) => tell_too_long(rt, file),
         InputRefusal::PageNotUtf8(at) => {
             eprintln!(rt; "cosmetic: refused: page is not UTF-8 at {at}")
         }
         InputRefusal::PageTooDeep => rt.eprintln("cosmetic: refused: page deeper than 512"),
         InputRefusal::PageTooManyNodes => rt.eprintln("cosmetic: refused: page past 1000000 nodes"),
+    }
+}
+
+fn tell_too_long(rt: &impl Eprint, file: File) -> io::Result<()> {
+    match file {
+        File::Suffixes => rt.eprintln("cosmetic: refused: suffixes too long"),
+        File::List(number) => eprintln!(rt; "cosmetic: refused: list {number} too long"),
+        File::Page => rt.eprintln("cosmetic: refused: page too long"),
+        File::Script => rt.eprintln("cosmetic: refused: script too long"),
+    }
+}
+
+/// How a run ends whose report wasn't written whole.
+pub fn status_of(error: ReportError) -> Status
+    ensures { result ≡ status_of error }
+{
+    match error {
+        ReportError::WriteFault => Status::WriteFault,
+        ReportError::NoMemory => Status::NoMemory,
     }
 }
 

@@ -1,5 +1,0 @@
-pub mod Command
-pub mod FilterSets
-pub mod Report
-pub mod Answers
-pub mod Output
