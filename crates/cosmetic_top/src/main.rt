@@ -19,6 +19,11 @@ use std::marker::Brand;
 use std::process::ExitCode;
 use std::sync::ledger::{Blank, Ledger};
 
+#[cfg(test)]
+mod filter_tests;
+#[cfg(test)]
+mod tests;
+
 fn main(rt: HostRuntime) -> ExitCode {
     let status = match end::words(&rt) {
         Ok(words) => run_outside::<Brand, Brand>(
