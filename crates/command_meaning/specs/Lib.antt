@@ -3,3 +3,4 @@ pub mod Report
 pub mod Output
 pub mod Numbers
 pub mod Laws
+pub mod Example

@@ -16,6 +16,8 @@ names-init g c = record {
       (rw behind_no_lists h);
   room = ap (λ (lists : List (List ℕ)). 16777216 + sum_by length lists) c.new-lists.ensures;
   number = refl;
+  count = ap length c.new-lists.ensures;
+  few = omega arith;
 }
 
 pub returns-in_err-bytes-clause-reads : goal.returns-in_err-bytes-clause-reads
@@ -48,6 +50,8 @@ names-preserved g c =
           (decides_after c.args.shelf.now c.names.shelf c.read_within.new.shelf c.args.names.now c.names.lists c.push.new.self (drop c.names.name-index c.args.names.now) c.names.number c.names.room c.as_str.result.now c.in_ok-bytes.bytes (drop (c.names.name-index + 1) c.args.names.now) left c.in_ok-push.ensures.ok c.in_ok-bytes.ensures.reads c.names.invariant.decides);
       room = grind (arith, common_steps, c.names.invariant.room, c.len-room.ensures, c.in_ok-push.ensures.ok, c.in_ok-bytes.ensures.within);
       number = omega (arith, c.names.invariant.number);
+      count = grind (arith, common_steps, c.names.invariant.count, c.in_ok-push.ensures.ok);
+      few = omega (arith, c.names-test.true, ap length c.as_slice-name-items.ensures);
     }
 
 pub returns-clause-reads : goal.returns-clause-reads
@@ -56,3 +60,6 @@ returns-clause-reads g c =
 
 pub returns-clause-within : goal.returns-clause-within
 returns-clause-within g c = omega (arith, c.names.invariant.room)
+
+pub returns-clause-few : goal.returns-clause-few
+returns-clause-few g c = omega (arith, c.names.invariant.count, c.names.invariant.few)
