@@ -1,8 +1,8 @@
 -- A block of a drill's page, and a line of its script, are short.
-use Rattle.std.proofs.Common.{◌≡◌, ◌≤◌, ◌<◌, ◌+◌, ◌-◌, ◌*◌, ◌%◌, ◌==◌, ◌++◌, ℕ, Bool, true, false, List, length, codes, decimal, arith, refl, if◌then◌else◌}
+use Rattle.std.proofs.Common.{◌≡◌, ◌≤◌, ◌<◌, ◌+◌, ◌-◌, ◌*◌, ◌%◌, ◌==◌, ◌++◌, ℕ, Bool, true, false, List, length, add-one, codes, decimal, arith, refl, if◌then◌else◌}
 use Rattle.std.proofs.lemmas.Grind.{common_steps}
 use Rattle.std.proofs.lemmas.Fmt.{length-decimal-le_wide}
-use Rattle.command_meaning.specs.Generator.{block, class_of, drill_line}
+use Rattle.command_meaning.specs.Generator.{block, class_of, drill_line, drill_page, drill_script}
 
 number_short : (n : ℕ) → n < 1000000 → length (decimal n) ≤ 6
 number_short n h = length-decimal-le_wide 6 n (omega arith) h (omega (arith, h))
@@ -38,3 +38,16 @@ line_short i h =
     (named_short (codes "move ") (codes " 0 0") (5 * i - 4) (omega (arith, h)) (omega arith) (omega arith))
     (named_short (codes "attr ") (codes " class gone") (5 * i - 3) (omega (arith, h)) (omega arith) (omega arith))
     (named_short (codes "text ") (codes " text 7") (5 * i) (omega (arith, h)) (omega arith) (omega arith))
+
+-- texts that grow by no more than 200 bytes each time
+pub grown : (k i : ℕ) (new old more : List ℕ) → new ≡ old ++ more → length more ≤ k → length old ≤ k * i → length new ≤ k * (i + 1)
+grown k i new old more e short h =
+    let sum : length new ≡ length old + length more = grind (arith, common_steps, e) in
+    let all : k * (i + 1) ≡ k * i + k = grind arith in
+    omega (arith, sum, all, short, h)
+
+pub page_more : (i : ℕ) → drill_page (i + 1) ≡ drill_page i ++ block (i + 1)
+page_more i = rw add-one refl
+
+pub script_more : (i : ℕ) → drill_script (i + 1) ≡ drill_script i ++ drill_line (i + 1) ++ codes "\n"
+script_more i = rw add-one refl

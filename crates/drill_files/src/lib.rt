@@ -24,9 +24,7 @@ pub fn drill_page(alloc: Global, number: u16) -> Result<String, AllocError>
 
 // The block of this number: a row with a link and a text.
 fn push_block(page: &mut String, i: u32) -> Result<(), AllocError>
-    requires { i < 100000 }
-    ensures text { OnOk result (string_bytes page.new ≡ string_bytes page.old ++ block i) }
-    ensures size { OnOk result (length (string_bytes page.new) ≤ length (string_bytes page.old) + 200) }
+    ensures { OnOk result (string_bytes page.new ≡ string_bytes page.old ++ block i) }
 {
     let class = class_of(i);
     write!(
@@ -69,8 +67,7 @@ pub fn drill_script(alloc: Global, number: u16) -> Result<String, AllocError>
 // The line of this number, without its end. The nodes of block `i` have the numbers from `5 * i - 4` to `5 * i`.
 fn push_line(script: &mut String, i: u32) -> Result<(), AllocError>
     requires { i < 100000 }
-    ensures text { OnOk result (string_bytes script.new ≡ string_bytes script.old ++ drill_line i) }
-    ensures size { OnOk result (length (string_bytes script.new) ≤ length (string_bytes script.old) + 199) }
+    ensures { OnOk result (string_bytes script.new ≡ string_bytes script.old ++ drill_line i) }
 {
     match i % 4 {
         1 => write!(script, "attr {} class hit", 5 * i - 3),
