@@ -141,6 +141,11 @@ def write(file, parts):
         target.writelines(parts)
 
 
+def report(name, *words):
+    """The words of a report of the page, with this list."""
+    return ["apply", "--url", "https://example.com/", "--page", "page", *words, name]
+
+
 def run(program, folder, words):
     """Seconds, peak memory in bytes, status and length of the output of one run."""
     output = Path(folder, "output")
@@ -176,14 +181,14 @@ def pages(program, folder, name, make):
     seconds = []
     for nodes in (200_000, 500_000):
         write(Path(folder, "page"), make(nodes))
-        seconds.append(measure(program, folder, f"{name}, {nodes:,} nodes, 50 filters", ["apply", "list", "page"]))
+        seconds.append(measure(program, folder, f"{name}, {nodes:,} nodes, 50 filters", report("list")))
     return compare(f"{name}, 500,000 for 200,000 nodes", *seconds)
 
 
 def small_elements(program, folder):
     """As many nodes as there may be, each with an attribute: what a node takes at the peak."""
     write(Path(folder, "page"), ["<br class=ad>"] * 1_000_000)
-    return measure(program, folder, "1,000,000 small elements", ["apply", "none", "page"]) is not None
+    return measure(program, folder, "1,000,000 small elements", report("none")) is not None
 
 
 def documents(program, folder):
@@ -195,7 +200,7 @@ def documents(program, folder):
     for size, file in sorted(found, reverse=True)[:DOCUMENTS]:
         if size <= DOCUMENT_BYTES:
             Path(folder, "page").write_bytes(file.read_bytes())
-            seconds = measure(program, folder, "/".join(file.parts[-3:])[-38:], ["apply", "none", "page"])
+            seconds = measure(program, folder, "/".join(file.parts[-3:])[-38:], report("none"))
             ran = ran and seconds is not None
             if seconds:
                 print(f"{'':<38}{size / 1e6 / seconds:>21.1f} MB a second")
@@ -248,7 +253,7 @@ def hostile(program, folder):
         seconds = []
         for size in (8_000_000, 16_000_000):
             write(Path(folder, "page"), make(size))
-            seconds.append(measure(program, folder, name, ["apply", "list", "page"]))
+            seconds.append(measure(program, folder, name, report("list")))
         ran = compare("  twice as large", *seconds) and ran
     return ran
 
@@ -257,8 +262,8 @@ def selector_lists(program, folder, count):
     """A list of selectors, and how many lines are read in a second: the time of a run with an empty list doesn't count."""
     write(Path(folder, "list"), selectors(count))
     write(Path(folder, "page"), ["<p>"])
-    without, *_ = run(program, folder, ["apply", "none", "page"])
-    seconds = measure(program, folder, f"{count:,} lines of selectors", ["apply", "list", "page"], "list")
+    without, *_ = run(program, folder, report("none"))
+    seconds = measure(program, folder, f"{count:,} lines of selectors", report("list"), "list")
     if seconds is None:
         return False
     print(f"{'':<38}{count / max(seconds - without, 0.001):>21,.0f} lines a second")
@@ -276,8 +281,8 @@ def list_lines():
 def cost(program, folder, name, lines, elements):
     """A list on the page that stands there: prints what one test of a filter on an element costs."""
     write(Path(folder, "list"), [line + "\n" for line in lines])
-    without, *_ = run(program, folder, ["apply", "none", "page"])
-    seconds = measure(program, folder, name, ["apply", "list", "page"])
+    without, *_ = run(program, folder, report("none"))
+    seconds = measure(program, folder, name, report("list"))
     if seconds is None:
         return False
     print(f"{'':<38}{(seconds - without) / (len(lines) * elements) * 1e9:>21,.0f} ns a test")
@@ -305,16 +310,16 @@ def bad_input(program, folder):
     """Lists and pages that are made to be slow."""
     write(Path(folder, "page"), ["<p>"])
     write(Path(folder, "list"), ("##..\n" for _ in range(3_300_000)))
-    ran = [measure(program, folder, "16 MB of malformed lines", ["apply", "list", "page"], "list")]
+    ran = [measure(program, folder, "16 MB of malformed lines", report("list"), "list")]
     write(Path(folder, "list"), ["##p:has-text(/b+c$/)\n"])
     write(Path(folder, "page"), ["<p>", *("ab " * 1000 for _ in range(5_500))])
-    ran.append(measure(program, folder, "a text of 16 MB under a pattern", ["apply", "list", "page"]))
+    ran.append(measure(program, folder, "a text of 16 MB under a pattern", report("list")))
     write(Path(folder, "list"), [f"##{name * 16}.b{')' * 16}\n" for name in (":is(", ":not(", ":has(> ", ":has(")])
     write(Path(folder, "page"), ["<b class=a>" * 510])
-    ran.append(measure(program, folder, "16 levels on a page 510 deep", ["apply", "list", "page"]))
+    ran.append(measure(program, folder, "16 levels on a page 510 deep", report("list")))
     write(Path(folder, "list"), ["##b:nth-last-of-type(3n)\n"])
     write(Path(folder, "page"), ["<b></b><i></i>" * 10_000])
-    ran.append(measure(program, folder, "20,000 siblings counted from the last", ["apply", "list", "page"]))
+    ran.append(measure(program, folder, "20,000 siblings counted from the last", report("list")))
     return all(seconds is not None for seconds in ran)
 
 
@@ -324,8 +329,32 @@ def scripts(program, folder, nodes):
     for lines in (500, 2_000):
         write(Path(folder, "script"), script(lines, nodes))
         name = f"{lines:,} lines, {nodes:,} nodes, 10 filters"
-        seconds.append(measure(program, folder, name, ["apply", "list", "page", "script"]))
+        seconds.append(measure(program, folder, name, report("list", "--script", "script")))
     return compare("2,000 for 500 lines", *seconds)
+
+
+def engine(program, folder):
+    """What changes cost, beside the same on other lists and pages. `--brief` prints numbers alone."""
+    classes = [f"##.c{i}\n" for i in range(2_000)]
+    rows = [f'<div class="row c{i % 97}" id="r{i}">text</div>' for i in range(10_000)]
+    write(Path(folder, "page"), rows)
+    write(Path(folder, "list"), classes)
+    write(Path(folder, "script"), (f"attr {2 * i + 1} title t{i}\n" for i in range(2_000)))
+    brief = ("--brief", "--script", "script")
+    seconds = [measure(program, folder, "2,000 lines that nothing observes", report("none", *brief))]
+    seconds.append(measure(program, folder, "  with 2,000 class filters", report("list", *brief)))
+    ran = compare("  filters for none", *seconds)
+    for name, line in (
+        ("1,000 classes", lambda i: f"attr {2 * i + 1} class row c{i}"),
+        ("1,000 texts", lambda i: f"text {2 * i + 2} other"),
+        ("1,000 inserts", lambda i: f"insert {2 * i + 1} 0 <b class=c{i}></b>"),
+        ("1,000 moves", lambda i: f"move {2 * i + 1} {2 * i + 3} 0"),
+        ("1,000 deletes", lambda i: f"delete {2 * i + 1}"),
+    ):
+        write(Path(folder, "script"), (line(i) + "\n" for i in range(1_000)))
+        ran = measure(program, folder, f"{name}, 2,000 filters", report("list", *brief)) is not None and ran
+    ran = measure(program, folder, "drill 2000", ["drill", "2000"]) is not None and ran
+    return ran
 
 
 def main():
@@ -342,6 +371,7 @@ def main():
         Path(folder, "list").write_text(filters(10))
         write(Path(folder, "page"), flat_page(20_000))
         ran.append(scripts(program, folder, 20_000))
+        ran.append(engine(program, folder))
     return 0 if all(ran) else 1
 
 
