@@ -13,6 +13,8 @@ It makes its own input in a temporary folder.
 - Hostile pages, each in two sizes: the larger one should take at most about twice as long.
 - A list of selectors over a page of one element: how many lines are read in a second, their patterns and the text that is
   written for each of them included.
+- A whole list in the shape of real ones, 170,000 lines of which 31,000 are cosmetic: `lists` should read 20 MB of it a second, with
+  at most 6 bytes of memory for each byte.
 - The class and id lines of a real list, where Debian's webext-ublock-origin-firefox is installed, else lines made in that shape,
   on a nested page: what one test costs.
 - 200 filters of each operator on a nested page: what one test costs, by operator.
@@ -71,6 +73,10 @@ SELECTORS = (
         ".feed-{} > div:has(.ad):not(:has(video))",
     ]
 )
+
+
+# Words that hosts and addresses of lists are made of.
+WORDS = ("ads", "banner", "track", "media", "static", "cdn", "click", "promo", "metrics", "pixel", "affiliate", "content")
 
 
 # Filters of each operator, by the number of the filter. Most of them select nothing or little of the nested page.
@@ -270,6 +276,54 @@ def selector_lists(program, folder, count):
     return True
 
 
+def host(i):
+    """One of some 40,000 hosts."""
+    return f"{WORDS[i % 61 % len(WORDS)]}.site-{i * 7919 % 40_000}.{('com', 'net', 'org', 'example', 'co.uk')[i % 5]}"
+
+
+def cosmetic_line(i):
+    """Most are generic, or have one host; some have several, and few are exceptions or scriptlets."""
+    selector = SELECTORS[i * 37 % len(SELECTORS)].replace("{}", str(i))
+    kind = i % 20
+    if kind < 9:
+        return f"##{selector}"
+    if kind < 15:
+        return f"{host(i)}##{selector}"
+    if kind < 17:
+        return f"{host(i)},{host(i + 1)},~www.{host(i)}##{selector}"
+    return (f"{host(i)}#@#{selector}", f"{host(i)}##+js(set, ads.on{i}, false)", f"{WORDS[i % len(WORDS)]}.*##{selector}")[kind - 17]
+
+
+def network_line(i):
+    """Most block a host; a hundredth are comments, directives and page options."""
+    kind = i % 100
+    if kind < 60:
+        return f"||{host(i)}^"
+    if kind < 80:
+        return f"||{host(i)}^$third-party,script"
+    if kind < 97:
+        return f"/{WORDS[i % len(WORDS)]}/{i}/ads.$domain={host(i)}"
+    return (f"! Section {i}", f"@@||{host(i)}^$generichide", f"!#if env_mobile\n||{host(i)}^$image\n!#endif")[kind - 97]
+
+
+def whole_list(lines):
+    """As many lines in the shape of a real list, of which 31 in 170 are cosmetic."""
+    yield "[Adblock Plus 2.0]\n"
+    for i in range(lines):
+        yield (cosmetic_line(i) if i % 170 < 31 else network_line(i)) + "\n"
+
+
+def whole_lists(program, folder):
+    """A whole list, and one twice as long."""
+    seconds = []
+    for count in (170_000, 340_000):
+        write(Path(folder, "list"), whole_list(count))
+        seconds.append(measure(program, folder, f"{count:,} lines of a whole list", ["lists", "list"], "list"))
+        if seconds[-1]:
+            print(f"{'':<38}{Path(folder, 'list').stat().st_size / 1e6 / seconds[-1]:>21.1f} MB a second")
+    return compare("  twice as long", *seconds)
+
+
 def list_lines():
     """The class and id lines of a real list, if one is installed."""
     for file in Path("/usr/share").glob("*/extensions/*/*/assets/thirdparties/easylist/easylist.txt"):
@@ -367,6 +421,7 @@ def main():
         ran = [pages(program, folder, "flat", flat_page), pages(program, folder, "nested", nested_page)]
         Path(folder, "none").write_text("")
         ran += [small_elements(program, folder), documents(program, folder), hostile(program, folder), selector_lists(program, folder, 30_000)]
+        ran.append(whole_lists(program, folder))
         ran += [costs(program, folder), bad_input(program, folder)]
         Path(folder, "list").write_text(filters(10))
         write(Path(folder, "page"), flat_page(20_000))
