@@ -12,7 +12,7 @@ use std::alloc::{AllocError, Global};
 ///
 /// Only want of memory.
 pub fn drill_page(alloc: Global, number: u16) -> Result<String, AllocError>
-    ensures { IfOk result (λ page. string_bytes page ≡ drill_page number) }
+    ensures text { IfOk result (λ page. string_bytes page ≡ drill_page number) }
     ensures size { IfOk result (λ page. length (string_bytes page) ≤ 200 * number) }
 {
     Err(AllocError)
@@ -31,7 +31,7 @@ pub fn drill_list() -> &'static str
 ///
 /// Only want of memory.
 pub fn drill_script(alloc: Global, number: u16) -> Result<String, AllocError>
-    ensures { IfOk result (λ script. string_bytes script ≡ drill_script number) }
+    ensures text { IfOk result (λ script. string_bytes script ≡ drill_script number) }
     ensures size { IfOk result (λ script. length (string_bytes script) ≤ 200 * number) }
 {
     Err(AllocError)
