@@ -11,6 +11,3 @@ mod pieces;
 pub use options::HideOptions;
 pub use page::Page;
 pub use pattern::{AddressPattern, Begin};
-
-#[cfg(test)]
-mod tests;

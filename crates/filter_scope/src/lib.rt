@@ -7,6 +7,3 @@ mod item;
 mod scope;
 
 pub use scope::{Item, Scope, ScopeRead, Target};
-
-#[cfg(test)]
-mod tests;

@@ -30,6 +30,3 @@ pub fn state()
     ensures carried { CarriedLaw }
     ensures found { FoundLaw }
 {}
-
-#[cfg(test)]
-mod tests;

@@ -15,6 +15,3 @@ pub use mutation_script::Answer;
 pub use writing::{
     ReportError, write_counts, write_drill, write_end, write_head, write_notices, write_step,
 };
-
-#[cfg(test)]
-mod tests;

@@ -12,6 +12,3 @@ mod suffixes;
 pub use ends::Ends;
 pub use host::{Host, is_under};
 pub use suffixes::{Suffixes, SuffixesRead};
-
-#[cfg(test)]
-mod tests;

@@ -9,6 +9,3 @@ mod store;
 mod tables;
 
 pub use store::Store;
-
-#[cfg(test)]
-mod tests;

@@ -17,8 +17,5 @@ pub use nesting::{OpenIf, OpenIfs, Unclosed};
 pub use options::{Domain, PageOptions};
 pub use separator::Separator;
 
-#[cfg(test)]
-mod tests;
-
 /// How many bytes a line of a list has at most.
 pub const LINE_LIMIT: usize = 65_536;

@@ -1,18 +1,13 @@
 -- What the lines of a list give, line by line.
-use Rattle.std.proofs.Common.{◌≡◌, ℕ, ◌+◌, ◌≤◌, ◌&&◌, ◌==◌, Bool, true, false, List, [], ◌∷◌, length, get_or, refl, sym, ap, subst, arith}
-use Rattle.std.specs.Prelude.{if◌then◌else◌, All}
+use Rattle.std.proofs.Common.{◌≡◌, ℕ, ◌+◌, ◌≤◌, ◌&&◌, ◌==◌, Bool, true, false, List, [], ◌∷◌, length, refl, sym, subst, arith}
+use Rattle.std.specs.Prelude.{if◌then◌else◌}
 use Rattle.cos_patterns.specs.declared.written.Written.{Written}
 use Rattle.cos_patterns.specs.Tables.{Noted, Extends}
 use Rattle.cos_source.specs.Lines.{lines_of, numbered, is_lf, begins_with_lf, onto_first_line}
-use Rattle.selector_tree.specs.declared.filter.Action.TheVariants.{Hide}
-use Rattle.selector_tree.specs.declared.filter.Filter.{Filter}
 use Rattle.selector_tree.specs.declared.selector.Step.{Step}
-use Rattle.selector_tree.specs.Unnumbered.{unnumbered}
-use Rattle.selector_tree.proofs.Unnumbered.{unnumbered_text}
 use Rattle.selector_spelling.specs.Bytes.{Bytes}
 use Rattle.proper_filters.specs.Proper.{is_proper}
 use Rattle.proper_filters.proofs.More.{proper_more}
-use Rattle.list_reader.specs.Filters.{unnumbered_filter, hide_filter, IsProperFilter}
 
 -- ---- few lines
 
@@ -43,15 +38,6 @@ few_lines bytes = omega (arith, numbered_length 1 (lines_of bytes), lines_length
 
 -- ---- filters
 
--- the filter of a line, the numbers of its patterns aside
-pub unnumbered_hide : (list line : ℕ) (selector : List (List Step)) → unnumbered_filter (hide_filter list line selector) ≡ hide_filter list line (unnumbered selector)
-unnumbered_hide list line selector =
-    ap (λ (text : Bytes). let f : Filter = record { list = list; line = line; selector = unnumbered selector; action = Hide; canonical = text } in f)
-    (sym (unnumbered_text selector Hide))
-
 -- what may be asked over a table may be asked over a later one
 pub proper_later : (a b : Noted) (selector : List (List Step)) → Extends a b → is_proper a.patterns selector ≡ true → is_proper b.patterns selector ≡ true
 proper_later a b selector e h = subst (λ (p : List Written). is_proper p selector ≡ true) (sym e.numbers) (proper_more a.patterns e.more selector h)
-
-pub proper_all : (a b : Noted) (filters : List Filter) → Extends a b → All (IsProperFilter a.patterns) filters → All (IsProperFilter b.patterns) filters
-proper_all a b filters e h = λ k f within. (let p = h k f within in (proper_later a b (get_or filters k f).selector e p.0, p.1))

@@ -1,6 +1,3 @@
-pub mod Lines
-pub mod Filters
-pub mod Meanings
 pub mod Entries
 pub mod Unclosed
 pub mod LineReads

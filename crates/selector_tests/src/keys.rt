@@ -1,0 +1,51 @@
+// Elements and filters by their keys.
+use dom_arena::{Attrs, Dom, DomError, NewNode};
+use generic_tables::{FilterTable, Key, KeyRef, Tables};
+use listed::{Listed, Text};
+use selector_tree::{Action, Filter, Step, Test};
+use std::alloc::{AllocError, Global};
+use std::test::Fail;
+
+// <p></p>
+fn page(alloc: Global) -> Result<Dom, DomError> {
+    let mut dom = Dom::new(alloc)?;
+    let name = Text::of(alloc, "p")?;
+    let attrs = Attrs::new(alloc);
+    dom.add(0, 0, NewNode::Element { name, attrs })?;
+    Ok(dom)
+}
+
+#[test]
+fn elements_stand_under_their_keys(rt: HostRuntime) -> Result<(), Fail> {
+    let alloc = rt.alloc();
+    let dom = page(alloc)?;
+    let tables = Tables::of(alloc, &dom)?;
+    let name = Key::Name(Text::of(alloc, "p")?);
+    assert_eq!(rt; tables.candidates(&name), [1].as_slice());
+    Ok(())
+}
+
+// .a
+fn filter(alloc: Global) -> Result<Filter, AllocError> {
+    let mut chain = Listed::new(alloc);
+    chain.push(Step::Keep(Test::Class(Text::of(alloc, "a")?)))?;
+    let mut selector = Listed::new(alloc);
+    selector.push(chain)?;
+    let canonical = Text::new(alloc);
+    Ok(Filter {
+        list: 1,
+        line: 1,
+        selector,
+        action: Action::Hide,
+        canonical,
+    })
+}
+
+#[test]
+fn filters_stand_under_their_keys(rt: HostRuntime) -> Result<(), Fail> {
+    let alloc = rt.alloc();
+    let mut table = FilterTable::new(alloc);
+    table.enter(7, &filter(alloc)?)?;
+    assert_eq!(rt; table.filters_for(KeyRef::Class("a")), [7].as_slice());
+    Ok(())
+}
