@@ -1,5 +1,5 @@
 -- How a command ends: it is refused before anything is written, or ends with what was written of its texts.
-use Rattle.std.proofs.Common.{◌≡◌, ◌≤◌, ◌<◌, ◌∙◌, ℕ, Bool, List, [], ◌++◌, length, take, Result, Ok, Err, IsTrue, OnOk, IfErr, IsErrOf, Unit, arith, refl, sym, ap, subst, append-nil}
+use Rattle.std.proofs.Common.{◌≡◌, ◌≤◌, ◌<◌, ◌∙◌, ℕ, Bool, false, List, [], ◌++◌, length, take, None, Result, Ok, Err, IsTrue, OnOk, IfErr, IsErrOf, Unit, arith, refl, sym, ap, subst, append-nil}
 use Rattle.std.specs.List.{concat}
 use Rattle.cos_outside.specs.Causes.{Rose}
 use Rattle.cos_outside.specs.Runs.{AppendsPrefix}
@@ -14,7 +14,7 @@ use Rattle.command_meaning.specs.Output.{Texts, status_by, texts_by}
 use Rattle.hide_report.specs.declared.writing.ReportError.{ReportError}
 use Rattle.hide_report.specs.declared.writing.ReportError.TheVariants.{WriteFault as OutputFault, NoMemory as OutputMemory}
 use Rattle.cosmetic_top.specs.Statuses.{IsFailed, is_refusal, status_of}
-use Rattle.cosmetic_top.specs.Runs.{AppendsWhole, RunsAs}
+use Rattle.cosmetic_top.specs.Runs.{AppendsWhole, RunsAlone, RunsAs}
 
 failed_of : (status : Status) → IsInputError status → IsFailed status
 failed_of Done h = h
@@ -69,7 +69,7 @@ module _ {S O T : Type 0} {tells : S → Bool} {files : S → Files} {begun : S 
     output = λ t s. tt;
     front = λ t s. nothing (written out) (concat (texts_by (due (files old)).answer large unread));
     whole = λ t s e. no_text (written out) (texts_by (due (files old)).answer large unread);
-    silent = λ r. absurd r;
+    silent = λ r. cc;
   }
 
   texts_read : (texts : Texts) → ReadsAs tells files begun read_faults old new due (Ok texts) → IsTrue (tells old) →
@@ -109,7 +109,7 @@ module _ {S O T : Type 0} {tells : S → Bool} {files : S → Files} {begun : S 
     output = λ t s. tt;
     front = λ t s. subst (λ (ts : List (List ℕ)). AppendsPrefix (written before) (written after) (concat ts)) (texts_read texts read t) (write.front s);
     whole = λ t s e. cc;
-    silent = λ r. absurd r;
+    silent = λ r. cc;
   }
   failed {before = before} {after = after} texts OutputMemory read write = record {
     kinds = tt;
@@ -122,7 +122,7 @@ module _ {S O T : Type 0} {tells : S → Bool} {files : S → Files} {begun : S 
     output = λ t s. tt;
     front = λ t s. subst (λ (ts : List (List ℕ)). AppendsPrefix (written before) (written after) (concat ts)) (texts_read texts read t) (write.front s);
     whole = λ t s e. subst (λ (ts : List (List ℕ)). AppendsWhole (written before) (written after) ts) (texts_read texts read t) (whole_texts (write.first s refl));
-    silent = λ r. absurd r;
+    silent = λ r. cc;
   }
 
   -- an error that goes on as it is
@@ -131,3 +131,22 @@ module _ {S O T : Type 0} {tells : S → Bool} {files : S → Files} {begun : S 
       RunsAs tells files begun read_faults old new shows written write_faults before after large unread due result
   exits {before = before} {after = after} e h =
       subst (λ (r : Result T Status). RunsAs tells files begun read_faults old new shows written write_faults before after large unread due r) (sym (e.1 ∙ ap Err e.2)) h
+
+-- a command that reads no files, over a shelf that it leaves as it is
+pub alone : {S O T : Type 0} {tells : S → Bool} {files : S → Files} {begun : S → List (List ℕ)} {read_faults : S → ℕ}
+    {shows : O → Bool} {written : O → List ℕ} {write_faults : O → ℕ} {before after : O} {large : List Asked} {unread : List Written} {due : Files → Due Texts} {result : Result T Status} →
+    (old : S) → due (λ name. None) ≡ due (files old) → RunsAlone shows written write_faults before after large unread due result →
+    RunsAs tells files begun read_faults old old shows written write_faults before after large unread due result
+alone {begun = begun} {written = written} {before = before} {after = after} {large = large} {unread = unread} {result = result} old same h = record {
+  kinds = h.kinds;
+  is_due = λ t. subst (λ (d : Due Texts). IfErr result (λ status. is_failure status ≡ false → status_by d.answer ≡ status)) same (h.is_due refl);
+  done = λ t. subst (λ (d : Due Texts). OnOk result (status_by d.answer ≡ Done)) same (h.done refl);
+  accepted = λ t e. subst (λ (d : Due Texts). status_by d.answer ≡ Done) same (h.accepted refl e);
+  names = λ t. record { count = 0; within = omega arith; front = sym (append-nil (begun old)) };
+  read_fault = λ e. absurd (omega (arith, h.read_fault e));
+  write_fault = h.write_fault;
+  output = λ t s. subst (λ (d : Due Texts). OnOk result (written after ≡ written before ++ concat (texts_by d.answer large unread))) same (h.output refl s);
+  front = λ t s. subst (λ (d : Due Texts). AppendsPrefix (written before) (written after) (concat (texts_by d.answer large unread))) same (h.front refl s);
+  whole = λ t s e. subst (λ (d : Due Texts). AppendsWhole (written before) (written after) (texts_by d.answer large unread)) same (h.whole refl s e);
+  silent = h.silent;
+}
