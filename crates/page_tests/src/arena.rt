@@ -147,6 +147,7 @@ fn a_fragment_is_grafted(rt: HostRuntime) -> Result<(), Fail> {
     let mut dom = Dom::new(alloc)?;
     dom.append(0, 0, NewNode::Comment(Text::new(alloc)))?;
     let part = read_fragment(alloc, "<b>x</b>y", 0, 1)?;
+    assert!(rt; part.len() == 3);
     let first = dom.graft(0, 0, part)?;
     assert_eq!(rt; first, 2);
     let found = order(alloc, &dom)?;
@@ -155,11 +156,10 @@ fn a_fragment_is_grafted(rt: HostRuntime) -> Result<(), Fail> {
 }
 
 #[test]
-fn an_empty_fragment_changes_nothing(rt: HostRuntime) -> Result<(), Fail> {
+fn an_empty_fragment_takes_no_number(rt: HostRuntime) -> Result<(), Fail> {
     let alloc = rt.alloc();
     let mut dom = Dom::new(alloc)?;
-    let refused = dom.graft(0, 1, Fragment::new(alloc));
-    assert_eq!(rt; refused, Err(DomError::BadPlace(1)));
-    assert_eq!(rt; dom.graft(0, 0, Fragment::new(alloc)), Ok(1));
+    let next = dom.graft(0, 0, Fragment::new(alloc))?;
+    assert_eq!(rt; next, 1);
     Ok(())
 }
