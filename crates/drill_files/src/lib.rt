@@ -1,7 +1,7 @@
 //! The page, the list and the script of a drill, made for its size.
 #![tactic(auto)]
 
-ghost use Rattle.std.specs.Prelude.{◌≡◌, ◌≤◌, ◌<◌, ◌+◌, ◌*◌, ◌++◌, IfOk, OnOk, length, string_bytes};
+ghost use Rattle.std.specs.Prelude.{◌≡◌, ◌≤◌, ◌*◌, ◌++◌, IfOk, OnOk, length, string_bytes};
 ghost use Rattle.command_meaning.specs.Generator.{block, class_of, drill_line, drill_list, drill_page, drill_script};
 
 use std::alloc::{AllocError, Global};
@@ -16,14 +16,14 @@ pub fn drill_page(alloc: Global, number: u16) -> Result<String, AllocError>
     ensures size { IfOk result (λ page. length (string_bytes page) ≤ 200 * number) }
 {
     let mut page = String::new(alloc);
-    for i in 0..u32::from(number) {
+    for i in 0..number {
         push_block(&mut page, i + 1)?;
     }
     Ok(page)
 }
 
 // The block of this number: a row with a link and a text.
-fn push_block(page: &mut String, i: u32) -> Result<(), AllocError>
+fn push_block(page: &mut String, i: u16) -> Result<(), AllocError>
     ensures { OnOk result (string_bytes page.new ≡ string_bytes page.old ++ block i) }
 {
     let class = class_of(i);
@@ -34,7 +34,7 @@ fn push_block(page: &mut String, i: u32) -> Result<(), AllocError>
 }
 
 // Every third link is an ad.
-fn class_of(i: u32) -> &'static str
+fn class_of(i: u16) -> &'static str
     ensures { result.now ≡ class_of i }
 {
     if i % 3 == 0 { "ad" } else { "ok" }
@@ -57,7 +57,7 @@ pub fn drill_script(alloc: Global, number: u16) -> Result<String, AllocError>
     ensures size { IfOk result (λ script. length (string_bytes script) ≤ 200 * number) }
 {
     let mut script = String::new(alloc);
-    for i in 0..u32::from(number) {
+    for i in 0..number {
         push_line(&mut script, i + 1)?;
         script.push_str("\n")?;
     }
@@ -65,15 +65,15 @@ pub fn drill_script(alloc: Global, number: u16) -> Result<String, AllocError>
 }
 
 // The line of this number, without its end. The nodes of block `i` have the numbers from `5 * i - 4` to `5 * i`.
-fn push_line(script: &mut String, i: u32) -> Result<(), AllocError>
-    requires { i < 100000 }
+fn push_line(script: &mut String, i: u16) -> Result<(), AllocError>
     ensures { OnOk result (string_bytes script.new ≡ string_bytes script.old ++ drill_line i) }
 {
+    let last = 5 * u32::from(i);
     match i % 4 {
-        1 => write!(script, "attr {} class hit", 5 * i - 3),
-        2 => write!(script, "move {} 0 0", 5 * i - 4),
-        3 => write!(script, "attr {} class gone", 5 * i - 3),
-        _ => write!(script, "text {} text 7", 5 * i),
+        1 => write!(script, "attr {} class hit", last - 3),
+        2 => write!(script, "move {} 0 0", last - 4),
+        3 => write!(script, "attr {} class gone", last - 3),
+        _ => write!(script, "text {last} text 7"),
     }
 }
 

@@ -1,13 +1,16 @@
 // How the lines of a script change a page.
-ghost use Rattle.std.specs.Prelude.{◌≡◌, ◌+◌, ◌≤◌, ◌<◌, ◌^◌, IfOk, length};
+ghost use Rattle.std.specs.Prelude.{◌≡◌, ◌+◌, ◌≤◌, ◌<◌, ◌^◌, [], IfOk, length};
 ghost use Rattle.cos_source.specs.Lines.{lines_of, numbered};
+ghost use Rattle.mutation_script.specs.Inserted.{inserted};
 ghost use Rattle.mutation_script.specs.Lines.{script_line};
 ghost use Rattle.mutation_script.specs.Changes.{answer};
 ghost use Rattle.command_meaning.specs.Report.{after_line, drilled_by, settling};
 
 use cos_outside::Steps;
+use cos_source::Lines;
 use hide_engine::Engine;
-use mutation_script::Answer;
+use mutation_script::{Answer, Mutation, Outcome, ScriptLine, read_line};
+use remove_rounds::settle;
 use selector_tree::TakenList;
 use std::alloc::{AllocError, Global};
 use std::sync::ledger::Ledger;
@@ -41,7 +44,49 @@ pub fn follow_line<L: Ledger, P: Ledger>(
     ensures engine { IfOk result (λ followed. followed.engine ≡ (after_line (script_line line.now) engine).state) }
     ensures taken { IfOk result (λ followed. followed.taken ≡ (after_line (script_line line.now) engine).taken) }
 {
-    Err(AllocError)
+    match read_line(alloc, line)? {
+        ScriptLine::Mutation(mutation) => follow_mutation(alloc, engine, mutation, checks, parts),
+        ScriptLine::Blank => Ok(unchanged(alloc, engine, Answer::Blank)),
+        ScriptLine::Bad(cause) => Ok(unchanged(alloc, engine, Answer::Bad(cause))),
+    }
+}
+
+// Makes a change, and rounds of removal where it is accepted.
+fn follow_mutation<L: Ledger, P: Ledger>(
+    alloc: Global,
+    engine: Engine,
+    mutation: Mutation,
+    checks: &mut Steps<L>,
+    parts: &mut Steps<P>,
+) -> Result<Followed, AllocError>
+    requires { engine.page.tree.next + inserted mutation ≤ 4294967295 }
+    ensures answer { IfOk result (λ followed. followed.answer ≡ answer (ScriptLine.Mutation mutation) engine.page) }
+    ensures engine { IfOk result (λ followed. followed.engine ≡ (after_line (ScriptLine.Mutation mutation) engine).state) }
+    ensures taken { IfOk result (λ followed. followed.taken ≡ (after_line (ScriptLine.Mutation mutation) engine).taken) }
+{
+    let (changed, outcome) = engine.apply(alloc, mutation, checks, parts)?;
+    match outcome {
+        Outcome::Done => {
+            let (engine, taken) = settle(alloc, changed, checks, parts)?;
+            Ok(Followed {
+                answer: Answer::Done,
+                engine,
+                taken,
+            })
+        }
+        Outcome::Refused(error) => Ok(unchanged(alloc, changed, Answer::Refused(error))),
+    }
+}
+
+// What a line came to that changes nothing.
+fn unchanged(alloc: Global, engine: Engine, given: Answer) -> Followed
+    ensures { result ≡ record { answer = given; engine = engine; taken = [] } }
+{
+    Followed {
+        answer: given,
+        engine,
+        taken: TakenList::new(alloc),
+    }
 }
 
 /// Makes rounds of removal, and then follows all lines of a script, and answers the page behind them, with how many elements
@@ -63,5 +108,24 @@ pub fn follow_script<L: Ledger, P: Ledger>(
         drilled_by (record { state = (settling engine).state; taken = length (settling engine).taken })
         (numbered 1 (lines_of script.now))) }
 {
-    Err(AllocError)
+    let (settled, taken) = settle(alloc, engine, checks, parts)?;
+    let mut page = settled;
+    let mut count = more(0, &taken)?;
+    let mut lines = Lines::new(script);
+    'lines: while let Some(line) = lines.next() {
+        let Followed { engine, taken, .. } = follow_line(alloc, page, line.bytes, checks, parts)?;
+        page = engine;
+        count = more(count, &taken)?;
+    }
+    Ok((page, count))
+}
+
+// A count with further elements. So many that it passes 64 bits don't fit in memory, so want of memory stands for it.
+fn more(count: u64, taken: &TakenList) -> Result<u64, AllocError>
+    ensures { IfOk result (λ sum. sum ≡ count + length taken.now) }
+{
+    match count.checked_add(taken.len() as u64) {
+        Some(sum) => Ok(sum),
+        None => Err(AllocError),
+    }
 }

@@ -1,11 +1,18 @@
 // The steps of a page and its script, written.
-ghost use Rattle.std.specs.Prelude.{◌+◌, ◌≤◌, ◌<◌, ◌^◌, length};
-ghost use Rattle.hide_report.specs.Reported.{ReportsAll};
-ghost use Rattle.command_meaning.specs.Report.{steps_texts};
+ghost use Rattle.std.specs.Prelude.{◌≡◌, ◌+◌, ◌≤◌, ◌<◌, ◌^◌, IfOk, length};
+ghost use Rattle.cos_source.specs.Lines.{lines_of, numbered};
+ghost use Rattle.mutation_script.specs.Lines.{script_line};
+ghost use Rattle.mutation_script.specs.Changes.{answer};
+ghost use Rattle.hide_report.specs.Reported.{IsAnswer, Reports, ReportsAll};
+ghost use Rattle.command_meaning.specs.Report.{after_line, lines_texts, steps_texts, text_of_step};
 
+use crate::follow::{Followed, follow_line};
 use cos_outside::{Sink, Steps};
+use cos_source::{Line, Lines};
 use hide_engine::Engine;
-use hide_report::ReportError;
+use hide_report::{ReportError, write_end, write_step};
+use mutation_script::Answer;
+use remove_rounds::settle;
 use std::alloc::Global;
 use std::sync::ledger::Ledger;
 
@@ -25,5 +32,92 @@ pub fn write_steps<O: Sink, L: Ledger, P: Ledger>(
     ensures { ReportsAll O.tells O.written O.faults out.old out.new
         (steps_texts brief engine script.now) result }
 {
-    Err(ReportError::NoMemory)
+    let (engine, taken) = settle(alloc, engine, checks, parts)?;
+    let opened = Followed {
+        answer: Answer::Opened,
+        engine,
+        taken,
+    };
+    write_followed(alloc, out, brief, 0, &opened)?;
+    let count = write_lines(alloc, out, brief, opened.engine, script, checks, parts)?;
+    write_end(alloc, out, count)
+}
+
+// Writes a step for each line of the script, and answers how many lines there are.
+fn write_lines<O: Sink, L: Ledger, P: Ledger>(
+    alloc: Global,
+    out: &mut O,
+    brief: bool,
+    engine: Engine,
+    script: &[u8],
+    checks: &mut Steps<L>,
+    parts: &mut Steps<P>,
+) -> Result<u32, ReportError>
+    requires script { length script.now < 2 ^ 32 }
+    requires numbers { engine.page.tree.next + length script.now ≤ 4294967295 }
+    ensures count { IfOk result (λ count. count ≡ length (lines_of script.now)) }
+    ensures texts { ReportsAll O.tells O.written O.faults out.old out.new
+        (lines_texts brief engine (numbered 1 (lines_of script.now))) result }
+{
+    let mut page = engine;
+    let mut count = 0;
+    let mut lines = Lines::new(script);
+    'lines: while let Some(line) = lines.next() {
+        page = write_line(alloc, out, brief, page, line, checks, parts)?;
+        count += 1;
+    }
+    Ok(count)
+}
+
+// Follows a line, writes its step, and answers the page behind it.
+fn write_line<O: Sink, L: Ledger, P: Ledger>(
+    alloc: Global,
+    out: &mut O,
+    brief: bool,
+    engine: Engine,
+    line: Line,
+    checks: &mut Steps<L>,
+    parts: &mut Steps<P>,
+) -> Result<Engine, ReportError>
+    requires { engine.page.tree.next + length line.bytes.now ≤ 4294967295 }
+    ensures page { IfOk result (λ page. page ≡ (after_line (script_line line.entry.bytes.now) engine).state) }
+    ensures text { Reports O.tells O.written O.faults out.old out.new
+        (text_of_step brief line.entry.number (answer (script_line line.entry.bytes.now) engine.page)
+        (after_line (script_line line.entry.bytes.now) engine)) result }
+{
+    let followed = follow_line(alloc, engine, line.bytes, checks, parts)?;
+    write_followed(alloc, out, brief, line.number, &followed)?;
+    Ok(followed.engine)
+}
+
+// Writes a step, with the hidden elements of the page as it then stands.
+fn write_followed<O: Sink>(
+    alloc: Global,
+    out: &mut O,
+    brief: bool,
+    number: u32,
+    step: &Followed,
+) -> Result<(), ReportError>
+    requires { IsAnswer step.now.answer }
+    ensures { Reports O.tells O.written O.faults out.old out.new
+        (text_of_step brief number step.now.answer (record { state = step.now.engine; taken = step.now.taken }))
+        result }
+{
+    let Followed {
+        answer,
+        engine,
+        taken,
+    } = step;
+    let rows = engine.hidden(alloc)?;
+    write_step(
+        alloc,
+        out,
+        number,
+        answer,
+        engine.dom(),
+        engine.active(),
+        taken,
+        &rows,
+        brief,
+    )
 }

@@ -1,0 +1,53 @@
+-- What the lines of a script come to.
+use Rattle.std.proofs.Common.{◌≡◌, ◌∙◌, ℕ, Bool, List, Result, Ok, Err, ap}
+use Rattle.page_tree.specs.Refusals.{Refusal}
+use Rattle.page_tree.specs.Refusals as refusals
+use Rattle.dom_arena.specs.Refusals.{error_of}
+use Rattle.dom_arena.specs.declared.refusals.DomError.TheVariants as errors
+use Rattle.selector_tree.specs.declared.filter.Taken.{Taken}
+use Rattle.mutation_script.specs.declared.answer.Answer.{Answer}
+use Rattle.mutation_script.specs.declared.mutation.ScriptLine.{ScriptLine}
+use Rattle.mutation_script.specs.declared.mutation.ScriptLine.TheVariants as says
+use Rattle.mutation_script.specs.declared.page.PageState.{PageState}
+use Rattle.mutation_script.specs.Changes.{answer, answer_by, change, outcome_of}
+use Rattle.engine_meaning.specs.States.{State}
+use Rattle.hide_report.specs.Reported.{IsAnswer}
+use Rattle.command_meaning.specs.Report.{Step, drilled_by, text_of_step}
+
+-- ---- want of memory is no answer
+
+no_refusal : (r : Refusal) → error_of r ≡ errors.NoMemory → ⊥
+no_refusal (refusals.NoSuchNode n) h = cc
+no_refusal (refusals.NotElement n) h = cc
+no_refusal (refusals.NotText n) h = cc
+no_refusal (refusals.BadPlace place) h = cc
+no_refusal (refusals.IntoItself n) h = cc
+no_refusal refusals.IsDocument h = cc
+no_refusal refusals.TooDeep h = cc
+no_refusal refusals.TooManyNodes h = cc
+
+answered : (changed : Result PageState Refusal) → IsAnswer (answer_by (outcome_of changed))
+answered (Ok page) = λ h. cc
+answered (Err refusal) = λ h. no_refusal refusal (cc)
+
+pub is_answer : (read : ScriptLine) (page : PageState) → IsAnswer (answer read page)
+is_answer (says.Mutation mutation) page = answered (change mutation page)
+is_answer says.Blank page = λ h. cc
+is_answer (says.Bad cause) page = λ h. cc
+
+-- ---- the same by equal parts
+
+-- a script that is followed
+pub drilled_alike : (s t : State) (n m : ℕ) (lines rest : List (ℕ × List ℕ)) → s ≡ t → n ≡ m → lines ≡ rest
+    → drilled_by (record { state = s; taken = n }) lines ≡ drilled_by (record { state = t; taken = m }) rest
+drilled_alike s t n m lines rest e f g =
+    ap (λ (x : State). drilled_by (record { state = x; taken = n }) lines) e ∙ ap (λ (k : ℕ). drilled_by (record { state = t; taken = k }) lines) f
+    ∙ ap (drilled_by (record { state = t; taken = m })) g
+
+-- the text of a step
+pub step_alike : (brief : Bool) (number : ℕ) (given other : Answer) (s : State) (taken : List Taken) (step : Step) → given ≡ other → s ≡ step.state → taken ≡ step.taken
+    → text_of_step brief number given (record { state = s; taken = taken }) ≡ text_of_step brief number other step
+step_alike brief number given other s taken step e f g =
+    ap (λ (a : Answer). text_of_step brief number a (record { state = s; taken = taken })) e
+    ∙ ap (λ (x : State). text_of_step brief number other (record { state = x; taken = taken })) f
+    ∙ ap (λ (l : List Taken). text_of_step brief number other (record { state = step.state; taken = l })) g

@@ -1,0 +1,4 @@
+mod Numbers
+mod Following
+mod Written
+mod Lines

@@ -1,0 +1,17 @@
+use Rattle.std.proofs.Common.{◌≡◌, ◌+◌, ◌≤◌, length}
+use Rattle.cos_source.specs.Lines.{lines_of, numbered}
+use Rattle.command_meaning.specs.Report.{drilled_by, settling}
+use Rattle.page_steps.proofs.Numbers.{bytes_of}
+use Rattle.page_steps.proofs.follow.follow_script.Given as goal
+
+-- what is left of the script gives what comes of all of it
+abbrev pub invariant-lines : goal.invariant-lines
+invariant-lines g l =
+    record {
+      left : drilled_by (record { state = l.page; taken = l.count }) l.lines ≡ drilled_by
+          (record { state = (settling l.fn.engine).state; taken = length (settling l.fn.engine).taken }) (numbered 1 (lines_of l.script));
+      numbers : l.page.page.tree.next + bytes_of l.lines ≤ 4294967295;
+    }
+
+abbrev pub decreases-lines : goal.decreases-lines
+decreases-lines g l = length l.lines

@@ -1,0 +1,29 @@
+use Rattle.std.proofs.Common.{subst, sym}
+use Rattle.std.proofs.lemmas.Result.{err_from_is_err_and}
+use Rattle.mutation_script.specs.Lines.{script_line}
+use Rattle.mutation_script.specs.Changes.{answer}
+use Rattle.hide_report.specs.Reported.{IsAnswer}
+use Rattle.command_meaning.specs.Report.{after_line}
+use Rattle.page_steps.proofs.Following.{is_answer, step_alike}
+use Rattle.page_steps.proofs.Written.{same_error, same_text}
+use Rattle.page_steps.proofs.writing.write_line.Goals as goal
+
+pub write_followed-requires : goal.write_followed-requires
+write_followed-requires g c = subst IsAnswer (sym c.in_ok-followed.ensures.answer) (is_answer (script_line c.args.line.bytes.now) c.args.engine.page)
+
+pub returns-in_err-write_followed-clause-text : goal.returns-in_err-write_followed-clause-text
+returns-in_err-write_followed-clause-text g c =
+    let e = err_from_is_err_and c.from_residual-in_err-write_followed.result c.from_residual-in_err-write_followed.ensures.1 in
+    let read = script_line c.args.line.bytes.now in
+    let followed = c.in_ok-followed.followed in
+    rw (e.1, e.2) (same_error
+    (step_alike c.args.brief c.args.line.number followed.answer (answer read c.args.engine.page) followed.engine followed.taken (after_line read c.args.engine)
+    c.in_ok-followed.ensures.answer c.in_ok-followed.ensures.engine c.in_ok-followed.ensures.taken) c.in_err-write_followed.ensures)
+
+pub returns-clause-text : goal.returns-clause-text
+returns-clause-text g c =
+    let read = script_line c.args.line.bytes.now in
+    let followed = c.in_ok-followed.followed in
+    same_text followed.engine
+    (step_alike c.args.brief c.args.line.number followed.answer (answer read c.args.engine.page) followed.engine followed.taken (after_line read c.args.engine)
+    c.in_ok-followed.ensures.answer c.in_ok-followed.ensures.engine c.in_ok-followed.ensures.taken) c.in_ok-write_followed.ensures

@@ -1,0 +1,45 @@
+use Rattle.std.proofs.Common.{ℕ, List, length, arith, sym, subst, ap}
+use Rattle.std.proofs.lemmas.Result.{err_from_is_err_and}
+use Rattle.cos_source.specs.Lines.{lines_of, numbered}
+use Rattle.command_meaning.specs.Report.{lines_texts}
+use Rattle.page_steps.proofs.Lines.{HasLeft, line_fails, line_goes_on, lines_end}
+use Rattle.page_steps.proofs.Numbers.{line_followed, line_within, lines_few, numbered_many, script_within}
+use Rattle.page_steps.proofs.Written.{none_written}
+use Rattle.page_steps.proofs.writing.write_lines.Goals as goal
+
+pub lines-init : goal.lines-init
+lines-init g c =
+    let sink = g.O.Sink in
+    let texts = lines_texts c.args.brief c.args.engine (numbered 1 (lines_of c.args.script.now)) in
+    record {
+      texts = subst
+          (λ (ls : List (ℕ × List ℕ)). HasLeft sink.tells sink.written sink.faults c.args.out.now c.args.out.now texts (lines_texts c.args.brief c.args.engine ls))
+          (sym c.new-lines.ensures.lines) (none_written c.args.out.now texts);
+      counted = omega (arith, ap length c.new-lines.ensures.lines, numbered_many 1 (lines_of c.args.script.now));
+      numbers = script_within c.args.script.now c.new-lines.result c.args.engine.page.tree.next c.new-lines.ensures.lines c.requires.numbers;
+    }
+
+pub write_line-requires : goal.write_line-requires
+write_line-requires g c = line_within c.lines.page (c.in-Some.line.number, c.in-Some.line.bytes.now) c.lines.lines c.next.new.self c.in-Some.ensures c.lines.invariant.numbers
+
+pub overflow_add-count : goal.overflow_add-count
+overflow_add-count g c = omega (arith, c.lines.invariant.counted, ap length c.in-Some.ensures, lines_few c.args.script.now, c.requires.script)
+
+pub returns-in_err-page-clause-texts : goal.returns-in_err-page-clause-texts
+returns-in_err-page-clause-texts g c =
+    let e = err_from_is_err_and c.from_residual.result c.from_residual.ensures.1 in
+    rw (e.1, e.2) (line_fails c.args.brief c.lines.page (c.in-Some.line.number, c.in-Some.line.bytes.now) c.lines.lines c.next.new.self c.in-Some.ensures
+    c.lines.invariant.texts c.in_err-page.ensures.text)
+
+pub lines-preserved : goal.lines-preserved
+lines-preserved g c =
+    record {
+      texts = line_goes_on c.args.brief c.lines.page (c.in-Some.line.number, c.in-Some.line.bytes.now) c.lines.lines c.next.new.self c.in-Some.ensures
+          c.lines.invariant.texts c.in_ok-page.page c.in_ok-page.ensures.page c.in_ok-page.ensures.text;
+      counted = omega (arith, c.lines.invariant.counted, ap length c.in-Some.ensures);
+      numbers = line_followed c.lines.page c.in_ok-page.page (c.in-Some.line.number, c.in-Some.line.bytes.now) c.lines.lines c.next.new.self c.in-Some.ensures
+          c.in_ok-page.ensures.page c.lines.invariant.numbers;
+    }
+
+pub returns-clause-texts : goal.returns-clause-texts
+returns-clause-texts g c = lines_end c.args.brief c.lines.page c.lines.lines c.lines.count c.in_default.ensures.0 c.lines.invariant.texts

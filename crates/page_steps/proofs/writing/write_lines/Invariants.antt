@@ -1,0 +1,19 @@
+use Rattle.std.proofs.Common.{◌≡◌, ◌+◌, ◌≤◌, length}
+use Rattle.cos_source.specs.Lines.{lines_of, numbered}
+use Rattle.command_meaning.specs.Report.{lines_texts}
+use Rattle.page_steps.proofs.Lines.{HasLeft}
+use Rattle.page_steps.proofs.Numbers.{bytes_of}
+use Rattle.page_steps.proofs.writing.write_lines.Given as goal
+
+-- what is left to write are the steps after the lines that are left
+abbrev pub invariant-lines : goal.invariant-lines
+invariant-lines g l =
+    let sink = g.O.Sink in
+    record {
+      texts : HasLeft sink.tells sink.written sink.faults l.fn.out l.out (lines_texts l.brief l.fn.engine (numbered 1 (lines_of l.script))) (lines_texts l.brief l.page l.lines);
+      counted : l.count + length l.lines ≡ length (lines_of l.script);
+      numbers : l.page.page.tree.next + bytes_of l.lines ≤ 4294967295;
+    }
+
+abbrev pub decreases-lines : goal.decreases-lines
+decreases-lines g l = length l.lines
