@@ -1,0 +1,4 @@
+mod Asking
+mod Items
+mod ListsLeft
+mod TextsLeft
