@@ -1,5 +1,5 @@
 -- Texts that are written one after the other: those that were written, and those that are left.
-use Rattle.std.proofs.Common.{◌≡◌, ◌++◌, ◌∙◌, ℕ, Bool, List, [], ◌∷◌, Result, Ok, Err, refl, sym, subst, ap, append_assoc, append-nil}
+use Rattle.std.proofs.Common.{◌≡◌, ◌++◌, ◌∙◌, ℕ, Bool, List, [], ◌∷◌, Ok, Err, refl, sym, subst, append_assoc}
 use Rattle.cos_outside.specs.Writes.{WritesText, WritesTexts}
 use Rattle.cos_outside.proofs.Writing.{and_more, error_before, no_texts, text_alone}
 
