@@ -1,10 +1,10 @@
 -- What comes of commands, computed. The page is `P`, its list `L` and its script `S`.
-use Rattle.std.specs.Prelude.{ℕ, ◌≡◌, false, List, [], ◌∷◌, Some, None, Err, codes, refl, if◌then◌else◌}
+use Rattle.std.specs.Prelude.{ℕ, zero, suc, ◌≡◌, false, List, [], ◌∷◌, Some, None, Err, codes, refl, if◌then◌else◌}
 use Rattle.std.specs.Fmt.{digits}
 use Rattle.std.specs.Str.{bytes_eq, chars, is_utf8}
 use Rattle.command_words.specs.declared.command.Command.TheVariants as command
 use Rattle.command_inputs.specs.declared.status.Status.TheVariants.{ReadFault, Refused, Usage}
-use Rattle.command_inputs.specs.declared.status.InputRefusal.TheVariants.{BadAddress}
+use Rattle.command_inputs.specs.declared.status.InputRefusal.TheVariants.{TooManyLists}
 use Rattle.command_inputs.specs.Due.{Files}
 use Rattle.hide_report.specs.Texts.{is_exception, is_filter, is_page_option}
 use Rattle.command_meaning.specs.Output.{command_due, due, output_of, texts_of}
@@ -47,14 +47,11 @@ conditions : lists_output (codes "!#if ext_ublock && !env_mobile\n##.a\n!#else\n
 unfolding texts_of digits is_utf8 chars lib.Utf8.encode is_filter is_exception is_page_option
 conditions = refl
 
--- a page isn't begun behind an address that is none
-no_address : command_due (Some (command.Apply (record {
-  url = codes "";
-  page = codes "P";
-  script = None;
-  suffixes = None;
-  env = [];
-  brief = false;
-  lists = codes "L" ∷ [];
-}))) (files [] [] []) ≡ record { begun = []; answer = Err (Refused BadAddress) }
-no_address = refl
+abbrev lists_named : ℕ → List (List ℕ)
+lists_named zero = []
+lists_named (suc n) = codes "L" ∷ lists_named n
+
+-- one list too many: none is begun
+too_many : command_due (Some (command.Lists (record { suffixes = None; env = []; lists = lists_named 33 }))) (files [] [] [])
+    ≡ record { begun = []; answer = Err (Refused TooManyLists) }
+too_many = refl
