@@ -216,12 +216,13 @@ fn each_command_ends_and_writes_as_its_input_says(rt: HostRuntime) -> Result<(),
     Ok(())
 }
 
-// Each call of the shelf fails in turn, until none is left that fails: nothing is written before.
+// Calls of the shelf fail in turn, until none is left that fails: nothing is written before. Of many small pieces not each is tried.
 #[test]
 fn each_read_that_fails_ends_a_run_before_it_writes(rt: HostRuntime) -> Result<(), Fail> {
     let alloc = rt.alloc();
-    for piece in [1, 7, 4096] {
-        for number in 1..1000 {
+    for (piece, step) in [(1, 31), (7, 5), (4096, 1)] {
+        let mut number = 1;
+        for _ in 0..1000 {
             let (status, out) = ended(alloc, &plan(ALL, number, 0, piece))?;
             if status == Status::Done {
                 break;
@@ -232,18 +233,20 @@ fn each_read_that_fails_ends_a_run_before_it_writes(rt: HostRuntime) -> Result<(
                 "at call {number} of pieces of {piece}"
             );
             assert_eq!(rt; out.written(), b"".as_slice());
+            number += step;
         }
     }
     Ok(())
 }
 
-// Each write fails in turn: what was written is a front of the whole output.
+// Writes fail in turn: what was written is a front of the whole output.
 #[test]
 fn each_write_that_fails_leaves_a_front(rt: HostRuntime) -> Result<(), Fail> {
     let alloc = rt.alloc();
     let report = format!(in alloc; "{NOTICES}{STEPS}")?;
-    for piece in [1, 7, 4096] {
-        for number in 1..2000 {
+    for (piece, step) in [(1, 31), (7, 5), (4096, 1)] {
+        let mut number = 1;
+        for _ in 0..1000 {
             let (status, out) = ended(alloc, &plan(ALL, 0, number, piece))?;
             assert_eq!(rt; report.as_bytes().starts_with(out.written()), true);
             if status == Status::Done {
@@ -254,6 +257,7 @@ fn each_write_that_fails_leaves_a_front(rt: HostRuntime) -> Result<(), Fail> {
                 Status::WriteFault,
                 "at write {number} of pieces of {piece}"
             );
+            number += step;
         }
     }
     Ok(())
