@@ -1,5 +1,5 @@
 -- How a command ends: it is refused before anything is written, or ends with what was written of its texts.
-use Rattle.std.proofs.Common.{◌≡◌, ◌≤◌, ◌<◌, ◌∙◌, ℕ, Bool, false, List, [], ◌++◌, length, take, None, Result, Ok, Err, IsTrue, OnOk, IfErr, IsErrOf, Unit, arith, refl, sym, ap, subst, append-nil}
+use Rattle.std.proofs.Common.{◌≡◌, ◌≤◌, ◌<◌, ◌∙◌, ℕ, Bool, false, List, [], ◌++◌, length, take, None, Result, Ok, Err, IsTrue, OnOk, IfErr, IsErrOf, arith, refl, sym, ap, subst, append-nil}
 use Rattle.std.specs.List.{concat}
 use Rattle.cos_outside.specs.Causes.{Rose}
 use Rattle.cos_outside.specs.Runs.{AppendsPrefix}
@@ -8,8 +8,9 @@ use Rattle.cos_patterns.specs.declared.written.Asked.{Asked}
 use Rattle.cos_patterns.specs.declared.written.Written.{Written}
 use Rattle.command_inputs.specs.declared.status.Status.{Status}
 use Rattle.command_inputs.specs.declared.status.Status.TheVariants.{Done, Usage, ReadFault, WriteFault, Refused, NoMemory}
+use Rattle.command_inputs.specs.declared.status.InputRefusal.{InputRefusal}
 use Rattle.command_inputs.specs.Due.{Due, Files}
-use Rattle.command_inputs.specs.Reads.{IsInputError, ReadsAs, is_failure}
+use Rattle.command_inputs.specs.Reads.{IsFileError, IsInputError, IsPageError, ReadsAs, is_failure}
 use Rattle.command_meaning.specs.Output.{Texts, status_by, texts_by}
 use Rattle.hide_report.specs.declared.writing.ReportError.{ReportError}
 use Rattle.hide_report.specs.declared.writing.ReportError.TheVariants.{WriteFault as OutputFault, NoMemory as OutputMemory}
@@ -20,7 +21,7 @@ failed_of : (status : Status) → IsInputError status → IsFailed status
 failed_of Done h = h
 failed_of Usage h = h
 failed_of ReadFault h = tt
-failed_of WriteFault h = h
+failed_of WriteFault h = tt
 failed_of (Refused refusal) h = tt
 failed_of NoMemory h = tt
 
@@ -35,6 +36,11 @@ no_text bytes texts = record { count = 0; within = omega arith; front = sym (app
 
 whole_texts : {old new : List ℕ} {texts : List (List ℕ)} → AppendsFirst old new texts → AppendsWhole old new texts
 whole_texts h = record { count = h.count; within = omega (arith, h.fewer); front = h.front }
+
+texts_read : {S : Type 0} {tells : S → Bool} {files : S → Files} {begun : S → List (List ℕ)} {read_faults : S → ℕ} {old new : S}
+    (large : List Asked) (unread : List Written) {due : Files → Due Texts} (texts : Texts) → ReadsAs tells files begun read_faults old new due (Ok texts) → IsTrue (tells old) →
+    texts large unread ≡ texts_by (due (files old)).answer large unread
+texts_read large unread texts read t = sym (ap (λ answer. texts_by answer large unread) (read.is_due t))
 
 module _ {S O T : Type 0} {tells : S → Bool} {files : S → Files} {begun : S → List (List ℕ)} {read_faults : S → ℕ} {old new : S}
     {shows : O → Bool} {written : O → List ℕ} {write_faults : O → ℕ} (large : List Asked) (unread : List Written) {due : Files → Due Texts} where
@@ -72,10 +78,6 @@ module _ {S O T : Type 0} {tells : S → Bool} {files : S → Files} {begun : S 
     silent = λ r. cc;
   }
 
-  texts_read : (texts : Texts) → ReadsAs tells files begun read_faults old new due (Ok texts) → IsTrue (tells old) →
-      texts large unread ≡ texts_by (due (files old)).answer large unread
-  texts_read texts read t = sym (ap (λ answer. texts_by answer large unread) (read.is_due t))
-
   -- all was written
   pub wrote : {before after : O} (texts : Texts) (x : T) → ReadsAs tells files begun read_faults old new due (Ok texts) →
       WritesTexts {T = T} shows written write_faults OutputFault OutputMemory before after (texts large unread) (Ok x) →
@@ -88,8 +90,8 @@ module _ {S O T : Type 0} {tells : S → Bool} {files : S → Files} {begun : S 
     names = read.names;
     read_fault = λ e. cc;
     write_fault = λ e. cc;
-    output = λ t s. subst (λ (ts : List (List ℕ)). written after ≡ written before ++ concat ts) (texts_read texts read t) (write.whole s);
-    front = λ t s. subst (λ (ts : List (List ℕ)). AppendsPrefix (written before) (written after) (concat ts)) (texts_read texts read t) (write.front s);
+    output = λ t s. subst (λ (ts : List (List ℕ)). written after ≡ written before ++ concat ts) (texts_read large unread texts read t) (write.whole s);
+    front = λ t s. subst (λ (ts : List (List ℕ)). AppendsPrefix (written before) (written after) (concat ts)) (texts_read large unread texts read t) (write.front s);
     whole = λ t s e. cc;
     silent = tt;
   }
@@ -107,7 +109,7 @@ module _ {S O T : Type 0} {tells : S → Bool} {files : S → Files} {begun : S 
     read_fault = λ e. cc;
     write_fault = λ e. write.cause refl;
     output = λ t s. tt;
-    front = λ t s. subst (λ (ts : List (List ℕ)). AppendsPrefix (written before) (written after) (concat ts)) (texts_read texts read t) (write.front s);
+    front = λ t s. subst (λ (ts : List (List ℕ)). AppendsPrefix (written before) (written after) (concat ts)) (texts_read large unread texts read t) (write.front s);
     whole = λ t s e. cc;
     silent = λ r. cc;
   }
@@ -120,8 +122,8 @@ module _ {S O T : Type 0} {tells : S → Bool} {files : S → Files} {begun : S 
     read_fault = λ e. cc;
     write_fault = λ e. cc;
     output = λ t s. tt;
-    front = λ t s. subst (λ (ts : List (List ℕ)). AppendsPrefix (written before) (written after) (concat ts)) (texts_read texts read t) (write.front s);
-    whole = λ t s e. subst (λ (ts : List (List ℕ)). AppendsWhole (written before) (written after) ts) (texts_read texts read t) (whole_texts (write.first s refl));
+    front = λ t s. subst (λ (ts : List (List ℕ)). AppendsPrefix (written before) (written after) (concat ts)) (texts_read large unread texts read t) (write.front s);
+    whole = λ t s e. subst (λ (ts : List (List ℕ)). AppendsWhole (written before) (written after) ts) (texts_read large unread texts read t) (whole_texts (write.first s refl));
     silent = λ r. cc;
   }
 
@@ -150,3 +152,26 @@ alone {begun = begun} {written = written} {before = before} {after = after} {lar
   whole = λ t s e. subst (λ (d : Due Texts). AppendsWhole (written before) (written after) (texts_by d.answer large unread)) same (h.whole refl s e);
   silent = h.silent;
 }
+
+-- writing that fails refuses nothing
+pub never_refused : {T : Type 0} (error : ReportError) (status : Status) (refusal : InputRefusal) → status ≡ status_of error →
+    IsErrOf {T = T} (Err status) (Refused refusal) → ⊥
+never_refused OutputFault status refusal h e = cc
+never_refused OutputMemory status refusal h e = cc
+
+-- errors of files and of pages are errors of input
+pub file_kind : (status : Status) → IsFileError status → IsInputError status
+file_kind Done h = h
+file_kind Usage h = h
+file_kind ReadFault h = tt
+file_kind WriteFault h = h
+file_kind (Refused refusal) h = tt
+file_kind NoMemory h = tt
+
+pub page_kind : (status : Status) → IsPageError status → IsInputError status
+page_kind Done h = h
+page_kind Usage h = h
+page_kind ReadFault h = tt
+page_kind WriteFault h = h
+page_kind (Refused refusal) h = tt
+page_kind NoMemory h = tt

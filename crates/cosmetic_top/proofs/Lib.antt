@@ -1,2 +1,4 @@
+pub mod Drilled
 pub mod Ends
+pub mod Parts
 pub mod Texts

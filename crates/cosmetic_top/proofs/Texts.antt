@@ -1,5 +1,5 @@
 -- What is written of what was read is what is due of the files.
-use Rattle.std.proofs.Common.{◌≡◌, ◌∙◌, ◌+◌, ℕ, Bool, List, [], ◌∷◌, ◌++◌, length, map, refl, sym, ap, ap₂, subst}
+use Rattle.std.proofs.Common.{◌≡◌, ◌∙◌, ◌+◌, ℕ, Bool, List, [], ◌∷◌, ◌++◌, suc, length, map, refl, sym, ap, ap₂, subst}
 use Rattle.std.proofs.lemmas.List.{length-map}
 use Rattle.page_tree.specs.Forest.{Tree}
 use Rattle.cos_source.specs.Lines.{lines_of, numbered}
@@ -35,11 +35,11 @@ rules_in suffixes = rules_of (numbered 1 (lines_of (without_mark suffixes)))
 pub count_read : (env : List (List ℕ)) (large : List Asked) (unread : List Written) (number : ℕ) (files : List (List ℕ)) →
     length (lists_from env large unread number files) ≡ length files
 count_read env large unread number [] = refl
-count_read env large unread number (bytes ∷ files) = ap (λ n. n + 1) (count_read env large unread (number + 1) files)
+count_read env large unread number (bytes ∷ files) = ap suc (count_read env large unread (number + 1) files)
 
 pub same_count : (env : List (List ℕ)) (large : List Asked) (unread : List Written) (files : List (List ℕ)) (lists : List ListRead) →
     map unnumbered_list lists ≡ lists_from env large unread 1 files → length lists ≡ length files
-same_count env large unread files lists e = sym (length-map unnumbered_list lists) ∙ ap length e ∙ count_read env large unread 1 files
+same_count env large unread files lists e = sym (length-map lists unnumbered_list) ∙ ap length e ∙ count_read env large unread 1 files
 
 -- the active filters hang on the rest of the page's host alone
 same_active : (lists : List ListRead) (page : Page) (rules others : List Rule) → ((host : List ℕ) → rest rules host ≡ rest others host) →

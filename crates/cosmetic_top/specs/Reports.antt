@@ -41,7 +41,7 @@ counts_of number s =
     record {
       number = number;
       nodes = size end.state.page.tree.nodes;
-      steps = length (lines_of (drill_script number));
+      steps = length lines;
       hidden = length (hidden_of pattern_found end.state);
       taken = end.taken;
     }

@@ -1,6 +1,6 @@
 // The command that makes its files for a size.
 ghost use Rattle.std.specs.Prelude.{◌≡◌, ◌+◌, ◌≤◌, ◌<◌, ◌^◌, ◌∷◌, [], All, length, IfOk, IsErrOf};
-ghost use Rattle.cos_source.specs.Lines.{lines_of};
+ghost use Rattle.cos_source.specs.Lines.{lines_of, numbered};
 ghost use Rattle.list_reader.specs.Entries.{IsProperEntry};
 ghost use Rattle.hostname_buckets.specs.Active.{active_among, entries_of};
 ghost use Rattle.command_words.specs.declared.command.Command.TheVariants.{Drill as DrillCommand};
@@ -123,7 +123,7 @@ fn counted<L: Ledger, P: Ledger>(
 // How many lines a source has.
 fn count_lines(source: &[u8]) -> u32
     requires { length source.now < 2 ^ 32 }
-    ensures { result ≡ length (lines_of source.now) }
+    ensures { result ≡ length (numbered 1 (lines_of source.now)) }
 {
     let mut count = 0;
     let mut lines = Lines::new(source);

@@ -1,5 +1,5 @@
 // The command that reports filter lists alone.
-ghost use Rattle.std.specs.Prelude.{◌≡◌, []};
+ghost use Rattle.std.specs.Prelude.{◌≡◌, [], IsErrOf};
 ghost use Rattle.command_words.specs.declared.command.Command.TheVariants.{Lists as ListsCommand};
 ghost use Rattle.command_inputs.specs.declared.status.Status.TheVariants.{Refused};
 ghost use Rattle.command_inputs.specs.declared.status.InputRefusal.TheVariants.{AddressTooLarge};

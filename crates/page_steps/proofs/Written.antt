@@ -1,5 +1,5 @@
 -- How the texts of a list are written one after the other, in a loop.
-use Rattle.std.proofs.Common.{◌≡◌, ◌∙◌, ℕ, Bool, List, [], ◌∷◌, ◌++◌, Ok, Err, refl, ap, sym, subst, append_assoc}
+use Rattle.std.proofs.Common.{◌≡◌, ◌∙◌, ℕ, Bool, List, [], ◌∷◌, ◌++◌, Ok, Err, arith, refl, ap, sym, subst, append-nil, append_assoc, le_refl}
 use Rattle.cos_outside.specs.Writes.{WritesText, WritesTexts}
 use Rattle.cos_outside.proofs.Writing.{and_more, error_before, no_texts, text_alone}
 
@@ -30,6 +30,18 @@ same_error {U = U} {tells = tells} {written = written} {faults = faults} {fault 
       later = h.later;
       cause = λ e. let same : error ≡ fault = cc in h.cause (ap Err same);
     })
+
+-- want of memory before the text is written
+pub none_of_text : {S T E : Type 0} {tells : S → Bool} {written : S → List ℕ} {faults : S → ℕ} {fault memory : E} (old : S)
+    {text : List ℕ} → (memory ≡ fault → ⊥) → WritesText {T = T} tells written faults fault memory old old text (Err memory)
+none_of_text {written = written} {faults = faults} old other = record {
+  told = refl;
+  whole = λ t. tt;
+  front = λ t. record { count = 0; within = omega arith; front = sym (append-nil (written old)) };
+  nothing = λ e. refl;
+  later = le_refl (faults old);
+  cause = λ e. absurd (other cc);
+}
 
 -- the first of the texts were written, and these are left
 pub record HasTextsLeft {S E : Type 0} (tells : S → Bool) (written : S → List ℕ) (faults : S → ℕ) (fault memory : E)

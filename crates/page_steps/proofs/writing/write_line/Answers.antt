@@ -1,15 +1,24 @@
-use Rattle.std.proofs.Common.{subst, sym}
+use Rattle.std.proofs.Common.{◌≡◌, subst, sym}
 use Rattle.std.proofs.lemmas.Result.{err_from_is_err_and}
 use Rattle.mutation_script.specs.Lines.{script_line}
 use Rattle.mutation_script.specs.Changes.{answer}
+use Rattle.hide_report.specs.declared.writing.ReportError.TheVariants.{NoMemory, WriteFault}
 use Rattle.hide_report.specs.Reported.{IsAnswer}
 use Rattle.command_meaning.specs.Report.{after_line}
 use Rattle.page_steps.proofs.Following.{is_answer, step_alike}
-use Rattle.page_steps.proofs.Written.{same_error, same_text}
+use Rattle.page_steps.proofs.Written.{none_of_text, same_error, same_text}
 use Rattle.page_steps.proofs.writing.write_line.Goals as goal
 
 pub write_followed-requires : goal.write_followed-requires
 write_followed-requires g c = subst IsAnswer (sym c.in_ok-followed.ensures.answer) (is_answer (script_line c.args.line.bytes.now) c.args.engine.page)
+
+no_fault : NoMemory ≡ WriteFault → ⊥
+no_fault e = cc
+
+pub returns-in_err-followed-clause-text : goal.returns-in_err-followed-clause-text
+returns-in_err-followed-clause-text g c =
+    let e = err_from_is_err_and c.from_residual.result c.from_residual.ensures.1 in
+    rw (e.1, e.2) (none_of_text c.args.out.now no_fault)
 
 pub returns-in_err-write_followed-clause-text : goal.returns-in_err-write_followed-clause-text
 returns-in_err-write_followed-clause-text g c =
