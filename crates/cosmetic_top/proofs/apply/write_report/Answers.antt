@@ -35,7 +35,7 @@ returns-in_err-write_head g c =
     let inputs = c.args.inputs in
     let s = state_of inputs.page inputs.tree c.args.read in
     let head = subst (λ (fs : List Filter). WritesText {T = Unit {0}} o.tells o.written o.faults WriteFault NoMemory c.write_all_notices.new.out c.write_head.new.out (head_text inputs.page.address fs c.args.brief) (Err c.in_err-write_head.field-0.0))
-        c.in_ok-active.ensures.active c.in_err-write_head.ensures in
+    c.in_ok-active.ensures.active c.in_err-write_head.ensures in
     writes_exit (err_from_is_err_and c.from_residual-in_err-write_head.result c.from_residual-in_err-write_head.ensures.1)
     (and_more c.in_ok-write_all_notices.ensures (error_before (steps_texts c.args.brief s (without_mark inputs.script)) (text_alone head)))
 
@@ -48,7 +48,7 @@ returns-in_err-engine g c =
     let opened = settling s in
     let lines = lines_of (without_mark inputs.script) in
     let head = subst (λ (fs : List Filter). WritesText o.tells o.written o.faults WriteFault NoMemory c.write_all_notices.new.out c.write_head.new.out (head_text inputs.page.address fs brief) (Ok c.in_ok-write_head.field-0))
-        c.in_ok-active.ensures.active c.in_ok-write_head.ensures in
+    c.in_ok-active.ensures.active c.in_ok-write_head.ensures in
     writes_exit (err_from_is_err_and c.from_residual-in_err-engine.result c.from_residual-in_err-engine.ensures.1)
     (and_more c.in_ok-write_all_notices.ensures
     (and_more (text_alone head)
@@ -58,7 +58,7 @@ pub write_steps-requires-clause-numbers : goal.write_steps-requires-clause-numbe
 write_steps-requires-clause-numbers g c =
     let next = ap (λ (s : State). s.page.tree.next) c.in_ok-engine.ensures.engine in
     let same : c.without_mark-script.result.now ≡ without_mark c.args.inputs.script =
-        c.without_mark-script.ensures ∙ ap without_mark c.as_slice.ensures in
+    c.without_mark-script.ensures ∙ ap without_mark c.as_slice.ensures in
     let short : length c.without_mark-script.result.now ≤ length c.args.inputs.script = rw same (unmarked_length c.args.inputs.script) in
     omega (arith, next, short, c.requires.numbers)
 
@@ -70,11 +70,11 @@ returns g c =
     let s = state_of inputs.page inputs.tree c.args.read in
     let filters = c.in_ok-active.ensures.active in
     let head = subst (λ (fs : List Filter). WritesText o.tells o.written o.faults WriteFault NoMemory c.write_all_notices.new.out c.write_head.new.out (head_text inputs.page.address fs brief) (Ok c.in_ok-write_head.field-0))
-        filters c.in_ok-write_head.ensures in
+    filters c.in_ok-write_head.ensures in
     let opened : c.in_ok-engine.engine ≡ s =
-        c.in_ok-engine.ensures.engine ∙ ap (λ (fs : List Filter). record { page = record { tree = inputs.tree; path = inputs.page.path }; filters = fs }) filters in
+    c.in_ok-engine.ensures.engine ∙ ap (λ (fs : List Filter). record { page = record { tree = inputs.tree; path = inputs.page.path }; filters = fs }) filters in
     let same : c.without_mark-script.result.now ≡ without_mark inputs.script =
-        c.without_mark-script.ensures ∙ ap without_mark c.as_slice.ensures in
+    c.without_mark-script.ensures ∙ ap without_mark c.as_slice.ensures in
     let steps = subst (λ (script : List ℕ). WritesTexts o.tells o.written o.faults WriteFault NoMemory c.write_head.new.out c.write_steps.new.out (steps_texts brief s script) c.write_steps.result) same
-        (subst (λ (state : State). WritesTexts o.tells o.written o.faults WriteFault NoMemory c.write_head.new.out c.write_steps.new.out (steps_texts brief state c.without_mark-script.result.now) c.write_steps.result) opened c.write_steps.ensures) in
+    (subst (λ (state : State). WritesTexts o.tells o.written o.faults WriteFault NoMemory c.write_head.new.out c.write_steps.new.out (steps_texts brief state c.without_mark-script.result.now) c.write_steps.result) opened c.write_steps.ensures) in
     and_more c.in_ok-write_all_notices.ensures (and_more (text_alone head) steps)

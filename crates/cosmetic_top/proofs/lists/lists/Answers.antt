@@ -3,16 +3,15 @@ use Rattle.std.proofs.lemmas.Result.{err_from_is_err_and}
 use Rattle.cos_outside.specs.Writes.{WritesTexts}
 use Rattle.hide_report.specs.declared.writing.ReportError.TheVariants.{WriteFault as OutputFault, NoMemory as OutputMemory}
 use Rattle.command_words.specs.declared.command.Lists.{Lists}
-use Rattle.command_words.specs.declared.command.Command.TheVariants.{Lists as ListsCommand}
 use Rattle.command_inputs.specs.declared.inputs.Sources.{Sources}
+use Rattle.command_words.specs.declared.command.Command.TheVariants.{Lists as ListsCommand}
 use Rattle.command_inputs.specs.declared.status.Status.{Status}
-use Rattle.command_inputs.specs.declared.status.InputRefusal.TheVariants.{AddressTooLarge}
 use Rattle.command_inputs.specs.Due.{Due, Files, at_once}
 use Rattle.command_inputs.proofs.Reading.{none_at_ok, reads_error, reads_none, reads_then}
 use Rattle.command_meaning.specs.Output.{Texts, texts_due}
 use Rattle.command_meaning.specs.Report.{lists_from, lists_report}
 use Rattle.cosmetic_top.specs.Runs.{RunsAs}
-use Rattle.cosmetic_top.proofs.Ends.{exits, failed, file_kind, never_refused, no_memory, refused, wrote}
+use Rattle.cosmetic_top.proofs.Ends.{exits, failed, file_kind, no_memory, refused, wrote}
 use Rattle.cosmetic_top.proofs.Texts.{lists_are}
 use Rattle.cosmetic_top.proofs.lists.lists.Goals as goal
 
@@ -51,8 +50,8 @@ returns-in-Ok-clause-runs g c =
     (subst (λ (ts : List (List ℕ)). WritesTexts o.tells o.written o.faults OutputFault OutputMemory c.args.out.now c.write_lists_report.new.out ts (Ok c.in-Ok.field-0))
     (lists_are words.env large unread sources c.in_ok-read.read read.bad read.rules read.lists) c.in-Ok.ensures)
 
-pub returns-in-Err-clause-runs : goal.returns-in-Err-clause-runs
-returns-in-Err-clause-runs g c =
+pub returns-clause-runs : goal.returns-clause-runs
+returns-clause-runs g c =
     let s = g.S.Shelf in
     let o = g.O.Sink in
     let words = c.args.words.now in
@@ -68,6 +67,3 @@ returns-in-Err-clause-runs g c =
     (reads_then (behind words) c.in_ok-sources.ensures.reads (reads_none c.read_lists.new.shelf (Ok texts) (Ok texts) refl (none_at_ok texts)))
     (subst (λ (ts : List (List ℕ)). WritesTexts {T = Unit {0}} o.tells o.written o.faults OutputFault OutputMemory c.args.out.now c.write_lists_report.new.out ts (Err c.in-Err.error))
     (lists_are words.env large unread sources c.in_ok-read.read read.bad read.rules read.lists) c.in-Err.ensures))
-
-pub returns-in-Err-clause-other : goal.returns-in-Err-clause-other
-returns-in-Err-clause-other g c = never_refused c.in-Err.error c.status_of.result AddressTooLarge c.status_of.ensures
