@@ -25,7 +25,7 @@ FILES = {
     "R": b"com\n",
     "empty": b"",
     "long": b"x" * (LIMIT + 1),
-    "half": b"! " + b"x" * (LIMIT // 2 - 2),
+    "half": (b"! " + b"x" * 61 + b"\n") * (LIMIT // 2 // 64),
     "not-utf8": b"<p>\xff",
     "marked-not-utf8": b"\xef\xbb\xbf<p>\xff",
     "deep": b"<b>" * 513,
