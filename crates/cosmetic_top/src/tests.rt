@@ -232,7 +232,7 @@ fn each_read_that_fails_ends_a_run_before_it_writes(rt: HostRuntime) -> Result<(
                 "at call {number} of pieces of {piece}"
             );
             assert_eq!(rt; out.written(), b"".as_slice());
-            number += step;
+            number = number.saturating_add(step);
         }
     }
     Ok(())
@@ -256,7 +256,7 @@ fn each_write_that_fails_leaves_a_front(rt: HostRuntime) -> Result<(), Fail> {
                 Status::WriteFault,
                 "at write {number} of pieces of {piece}"
             );
-            number += step;
+            number = number.saturating_add(step);
         }
     }
     Ok(())
