@@ -1,16 +1,13 @@
 -- What an event leaves: the page where nothing was changed, and the page behind a round.
-use Rattle.std.proofs.Common.{◌≡◌, ℕ, suc, Bool, true, false, List, [], ◌∷◌, map, length, Result, Ok, Err, IsErr, refl, sym, ◌∙◌, arith}
-use Rattle.std.specs.Prelude.{nat_lt}
+use Rattle.std.proofs.Common.{◌≡◌, true, false, Result, Ok, Err, IsErr, refl, sym, ◌∙◌}
+use Rattle.std.specs.Prelude.{is_ok}
 use Rattle.std.specs.Result.{result_unwrap_or}
-use Rattle.std.proofs.lemmas.Bool.Decides.{nat_tests}
 use Rattle.page_tree.specs.Refusals.{Refusal}
 use Rattle.dom_arena.specs.declared.refusals.DomError.{DomError}
 use Rattle.mutation_script.specs.declared.page.PageState.{PageState}
 use Rattle.mutation_script.specs.declared.answer.Outcome.{Outcome}
 use Rattle.mutation_script.specs.declared.answer.Outcome.TheVariants.{Done, Refused}
 use Rattle.mutation_script.specs.Changes.{outcome_of}
-use Rattle.selector_tree.specs.declared.filter.Taken.{Taken}
-use Rattle.engine_meaning.specs.Rounds.{without_each}
 
 -- a refused change leaves the page as it is
 pub unchanged : (page : PageState) (change : Result PageState Refusal) (given : Outcome) (error : DomError) → given ≡ outcome_of change → given ≡ Refused error →
@@ -23,11 +20,16 @@ pub not_refused : (change : Result PageState Refusal) (given : Outcome) → give
 not_refused (Ok new) given e done refused = absurd (let no : false ≡ true = refused in cc)
 not_refused (Err refusal) given e done refused = absurd (let no : outcome_of (Err refusal) ≡ Done = sym e ∙ done in cc)
 
--- where nothing is noted nothing was taken out
-pub untouched : (page new : PageState) (rows : List Taken) (noted : Bool) → new ≡ record page { tree = without_each page.tree (map (λ row. row.node) rows) } →
-    noted ≡ nat_lt 0 (length rows) → noted ≡ false → new ≡ page
-untouched page new [] noted e n h = e
-untouched page new (row ∷ rows) noted e n h = absurd (positive (length rows) (sym n ∙ h))
-  where
-    positive : (m : ℕ) → nat_lt 0 (suc m) ≡ false → ⊥
-    positive m p = grind (arith, nat_tests)
+-- whether a change is made, by its outcome
+pub is_made : (change : Result PageState Refusal) (given : Outcome) → given ≡ outcome_of change → given ≡ Done → is_ok change ≡ true
+is_made (Ok new) given e done = refl
+is_made (Err refusal) given e done = absurd (let no : outcome_of (Err refusal) ≡ Done = sym e ∙ done in cc)
+
+pub is_refused : (change : Result PageState Refusal) (given : Outcome) (error : DomError) → given ≡ outcome_of change → given ≡ Refused error → is_ok change ≡ false
+is_refused (Ok new) given error e refused = absurd (let no : Done ≡ Refused error = sym e ∙ refused in cc)
+is_refused (Err refusal) given error e refused = refl
+
+-- a refused change leaves the page as it is
+pub stays : (page : PageState) (change : Result PageState Refusal) → IsErr change → result_unwrap_or change page ≡ page
+stays page (Ok new) refused = absurd (let no : false ≡ true = refused in cc)
+stays page (Err refusal) refused = refl

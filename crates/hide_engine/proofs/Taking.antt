@@ -135,9 +135,6 @@ each_row t rows i here h is =
     ∙ each_more t (map (λ r. r.node) (take i rows)) (get_or rows i here).node
     ∙ ap (λ (r : Taken). detached r.node (without_each t (map (λ r. r.node) (take i rows)))) (sym is)
 
-pub some_taken : (n : ℕ) → true ≡ nat_lt 0 (n + 1)
-some_taken n = grind (arith, nat_tests)
-
 -- ---- ancestors
 
 module _ (s : State) (at up : ℕ) (rises : above s.page.tree at ≡ up ∷ above s.page.tree up) (gone : Bool)
