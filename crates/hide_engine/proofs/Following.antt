@@ -58,10 +58,13 @@ module _ (filters : FilterSet) (ready : AreReady filters) where
   nothing : Filter
   nothing = record { list = 0; line = 0; selector = []; action = Hide; canonical = [] }
 
+  pub proper_at : (f : ℕ) → f < length filters.active → is_proper filters.table.patterns (selector_at filters.active f) ≡ true
+  proper_at f lt =
+      ap (is_proper filters.table.patterns) (selector_there filters.active f nothing lt) ∙ (ready.askable.proper f nothing lt).0
+
   outers : (f : ℕ) → is_outer (selector_at filters.active f) ≡ true
   outers f = elim (cases_lt f (length filters.active)) [
-    | inl lt ↦ proper_is_outer filters.table.patterns (selector_at filters.active f)
-        (ap (is_proper filters.table.patterns) (selector_there filters.active f nothing lt) ∙ (ready.askable.proper f nothing lt).0)
+    | inl lt ↦ proper_is_outer filters.table.patterns (selector_at filters.active f) (proper_at f lt)
     | inr le ↦ ap is_outer (past filters.active f le)
   ]
 

@@ -28,7 +28,15 @@ pub(crate) fn ask_again<L: Ledger, P: Ledger>(
     ensures exact { OnOk result (AreExact (state_of page.now filters.now) marks.new) }
     ensures checks { checks.new ≤ checks.old + budget_of (state_of page.now filters.now) (pended filters.now pending.now) }
 {
-    retest(alloc, &asking(page, filters), pending, marks, checks, parts)
+    let asking = Asking {
+        dom: &page.tree,
+        path: page.path.as_str(),
+        table: &filters.table,
+        active: &filters.active,
+        keyed: &filters.keyed,
+        groups: filters.groups.numbers.as_slice(),
+    };
+    retest(alloc, &asking, pending, marks, checks, parts)
 }
 
 /// The marks of a page: each filter is asked of the elements that carry a key of it.
@@ -43,24 +51,13 @@ pub(crate) fn ask_everything<L: Ledger, P: Ledger>(
     ensures exact { IfOk result (λ marks. AreExact (state_of page.now filters.now) marks) }
     ensures checks { checks.new ≤ checks.old + start_budget (state_of page.now filters.now) }
 {
-    start(alloc, &asking(page, filters), checks, parts)
-}
-
-// A page with the filters that are asked of it.
-fn asking<'a>(page: &'a PageState, filters: &'a FilterSet) -> Asking<'a>
-    ensures dom { result.dom.now ≡ page.now.tree }
-    ensures path { result.path.now ≡ page.now.path }
-    ensures table { result.table.now ≡ filters.now.table }
-    ensures active { result.active.now ≡ filters.now.active }
-    ensures keyed { result.keyed.now ≡ filters.now.keyed }
-    ensures groups { result.groups.now ≡ filters.now.groups.numbers }
-{
-    Asking {
+    let asking = Asking {
         dom: &page.tree,
         path: page.path.as_str(),
         table: &filters.table,
         active: &filters.active,
         keyed: &filters.keyed,
         groups: filters.groups.numbers.as_slice(),
-    }
+    };
+    start(alloc, &asking, checks, parts)
 }

@@ -1,0 +1,14 @@
+use Rattle.std.proofs.Common.{◌≤◌, ◌+◌, List, subst}
+use Rattle.selector_tree.specs.declared.filter.Filter.{Filter}
+use Rattle.hide_engine.specs.Budgets.{start_budget}
+use Rattle.hide_engine.proofs.engine.Engine.start.Goals as goal
+
+pub returns-in_err-marks-clause-checks : goal.returns-in_err-marks-clause-checks
+returns-in_err-marks-clause-checks g c =
+    subst (λ (filters : List Filter). c.ask_everything.new.checks ≤ c.args.checks.now + start_budget (record { page = c.args.page; filters = filters }))
+    c.in_ok-filters.ensures.active c.ask_everything.ensures.checks
+
+pub returns-clause-checks : goal.returns-clause-checks
+returns-clause-checks g c =
+    subst (λ (filters : List Filter). c.ask_everything.new.checks ≤ c.args.checks.now + start_budget (record { page = c.args.page; filters = filters }))
+    c.in_ok-filters.ensures.active c.ask_everything.ensures.checks
