@@ -33,3 +33,7 @@ is_refused (Err refusal) given error e refused = refl
 pub stays : (page : PageState) (change : Result PageState Refusal) → IsErr change → result_unwrap_or change page ≡ page
 stays page (Ok new) refused = absurd (let no : false ≡ true = refused in cc)
 stays page (Err refusal) refused = refl
+
+pub errs : (change : Result PageState Refusal) (given : Outcome) (error : DomError) → given ≡ outcome_of change → given ≡ Refused error → IsErr change
+errs (Ok new) given error e refused = absurd (let no : Done ≡ Refused error = sym e ∙ refused in cc)
+errs (Err refusal) given error e refused = refl
