@@ -1,13 +1,22 @@
 -- What an event leaves: the page where nothing was changed, and the page behind a round.
-use Rattle.std.proofs.Common.{◌≡◌, true, false, Result, Ok, Err, IsErr, refl, sym, ◌∙◌}
+use Rattle.std.proofs.Common.{◌≡◌, ℕ, zero, suc, true, false, List, [], ◌∷◌, map, length, Result, Ok, Err, IsErr, refl, sym, ap, ◌∙◌}
 use Rattle.std.specs.Prelude.{is_ok}
 use Rattle.std.specs.Result.{result_unwrap_or}
+use Rattle.cos_patterns.specs.Found.{pattern_found}
+use Rattle.page_tree.specs.Forest.{Tree}
 use Rattle.page_tree.specs.Refusals.{Refusal}
+use Rattle.page_tree.specs.Trees.{IsTree}
 use Rattle.dom_arena.specs.declared.refusals.DomError.{DomError}
 use Rattle.mutation_script.specs.declared.page.PageState.{PageState}
 use Rattle.mutation_script.specs.declared.answer.Outcome.{Outcome}
 use Rattle.mutation_script.specs.declared.answer.Outcome.TheVariants.{Done, Refused}
 use Rattle.mutation_script.specs.Changes.{outcome_of}
+use Rattle.selector_tree.specs.declared.filter.Taken.{Taken}
+use Rattle.engine_meaning.specs.Rounds.{without_each}
+use Rattle.engine_meaning.specs.States.{rounded, round_of}
+use Rattle.engine_meaning.proofs.Outermost.{each-round}
+use Rattle.hide_engine.specs.declared.filter_set.FilterSet.{FilterSet}
+use Rattle.hide_engine.specs.Ready.{state_of}
 
 -- a refused change leaves the page as it is
 pub unchanged : (page : PageState) (change : Result PageState Refusal) (given : Outcome) (error : DomError) → given ≡ outcome_of change → given ≡ Refused error →
@@ -37,3 +46,23 @@ stays page (Err refusal) refused = refl
 pub errs : (change : Result PageState Refusal) (given : Outcome) (error : DomError) → given ≡ outcome_of change → given ≡ Refused error → IsErr change
 errs (Ok new) given error e refused = absurd (let no : Done ≡ Refused error = sym e ∙ refused in cc)
 errs (Err refusal) given error e refused = refl
+
+-- ---- a round
+
+module _ (page : PageState) (filters : FilterSet) (tree : IsTree page.tree) (rows : List Taken) (are : rows ≡ round_of pattern_found (state_of page filters)) where
+  -- the page without the rows, one after another, is the page behind the round
+  pub behind_round : (new : PageState) → new ≡ record page { tree = without_each page.tree (map (λ row. row.node) rows) } →
+      state_of new filters ≡ rounded pattern_found (state_of page filters)
+  behind_round new at =
+      ap (λ (p : PageState). state_of p filters)
+      (at
+      ∙ ap (λ (l : List Taken). record page { tree = without_each page.tree (map (λ row. row.node) l) }) are
+      ∙ ap (λ (t : Tree). record page { tree = t }) (each-round pattern_found filters.active page.path page.tree 1 tree))
+
+  -- a round without rows leaves the page as it is
+  pub no_round : length rows ≡ 0 → state_of page filters ≡ rounded pattern_found (state_of page filters)
+  no_round none = behind_round page (ap (λ (l : List Taken). record page { tree = without_each page.tree (map (λ row. row.node) l) }) (sym (nothing rows none)))
+    where
+      nothing : (l : List Taken) → length l ≡ 0 → l ≡ []
+      nothing [] e = refl
+      nothing (row ∷ l) e = absurd (let no : suc (length l) ≡ zero = e in cc)

@@ -97,26 +97,27 @@ impl Engine {
             mut marks,
         } = self;
         let mut pending = Pending::new(alloc);
-        let outcome = make(alloc, &mut page, &filters, mutation, &mut marks, &mut pending)?;
-        if let Outcome::Refused(_) = outcome {
-            return Ok((
+        match make(alloc, &mut page, &filters, mutation, &mut marks, &mut pending)? {
+            Outcome::Refused(error) => Ok((
                 Engine {
                     page,
                     filters,
                     marks,
                 },
-                outcome,
-            ));
+                Outcome::Refused(error),
+            )),
+            Outcome::Done => {
+                ask_again(alloc, &page, &filters, &pending, &mut marks, checks, parts)?;
+                Ok((
+                    Engine {
+                        page,
+                        filters,
+                        marks,
+                    },
+                    Outcome::Done,
+                ))
+            }
         }
-        ask_again(alloc, &page, &filters, &pending, &mut marks, checks, parts)?;
-        Ok((
-            Engine {
-                page,
-                filters,
-                marks,
-            },
-            outcome,
-        ))
     }
 
     /// Takes all elements that some filter removes out of the page, and answers the outermost of them, as taken in round 1.
@@ -132,6 +133,7 @@ impl Engine {
         ensures quiet { round_of pattern_found self ≡ [] → checks.new ≡ checks.old }
         ensures checks { checks.new ≤ checks.old + round_budget self }
     {
+        self.page.tree.is_tree();
         let rows = taken_rows(alloc, &self.page, &self.filters.active, &self.marks)?;
         if rows.len() == 0 {
             return Ok((self, rows));
@@ -141,7 +143,6 @@ impl Engine {
             filters,
             mut marks,
         } = self;
-        page.tree.is_tree();
         let mut pending = Pending::new(alloc);
         take_out_all(
             alloc,
