@@ -8,17 +8,11 @@ use Rattle.page_tree.specs.Standings.{all}
 use Rattle.generic_tables.specs.Keys.{is_keyed}
 use Rattle.selector_tree.specs.declared.selector.Step.{Step}
 use Rattle.procedural_ops.specs.Told.{selector_at}
-use Rattle.cos_patterns.specs.Found.{pattern_found}
-use Rattle.mutation_script.specs.declared.mutation.Mutation.{Mutation}
 use Rattle.mutation_script.specs.declared.page.PageState.{PageState}
-use Rattle.mutation_script.specs.Changes.{changed}
-use Rattle.selector_tree.specs.declared.filter.Taken.{Taken}
-use Rattle.engine_meaning.specs.States.{State, rounded, round_of}
 use Rattle.retest.specs.Noted.{Noted}
 use Rattle.retest_laws.specs.Pending.{Pairs, due_at, budget}
 use Rattle.hide_engine.specs.declared.filter_set.FilterSet.{FilterSet}
-use Rattle.hide_engine.specs.Budgets.{carried, budget_of, event_budget, round_budget}
-use Rattle.hide_engine.specs.Changes.{dirtied_by, dirtied_without}
+use Rattle.hide_engine.specs.Budgets.{carried, budget_of}
 use Rattle.hide_engine.specs.Ready.{state_of, pended, IsGiven}
 use Rattle.hide_engine.proofs.Following.{past}
 
@@ -40,7 +34,7 @@ module _ (n : ℕ) (carries pending others : Pairs) (same : (f x : ℕ) → (pen
       sum_by-cons (due_at n carries pending) x xs ∙ ap₂ (λ a b. a + b) (same_due x) (same_budget xs)
       ∙ sym (sum_by-cons (due_at n carries others) x xs)
 
-pub given_budget : (page : PageState) (filters : FilterSet) (pending : Noted) (given : Pairs) → IsGiven filters pending given →
+given_budget : (page : PageState) (filters : FilterSet) (pending : Noted) (given : Pairs) → IsGiven filters pending given →
     budget_of (state_of page filters) (pended filters pending) ≡ budget_of (state_of page filters) given
 given_budget page filters pending given h =
     same_budget (length filters.active) (carried (state_of page filters)) (pended filters pending) given same (all page.tree)
@@ -57,19 +51,8 @@ given_budget page filters pending given h =
           ∙ sym (ap (λ b. given f x && b) none ∙ bool.and-false (given f x))
     ]
 
--- the bounds of a mutation and of a round
-module _ (page new : PageState) (filters : FilterSet) (pending : Noted) (self : State) (view : state_of page filters ≡ self) where
-  pub mutation_budget : (mutation : Mutation) → new ≡ changed mutation page → IsGiven filters pending (dirtied_by mutation (state_of page filters)) →
-      budget_of (state_of new filters) (pended filters pending) ≡ event_budget mutation self
-  mutation_budget mutation at given =
-      given_budget new filters pending (dirtied_by mutation (state_of page filters)) given
-      ∙ ap (λ (p : PageState). budget_of (state_of p filters) (dirtied_by mutation (state_of page filters))) at
-      ∙ ap (event_budget mutation) view
-
-  pub rounds_budget : (rows : List Taken) → rows ≡ round_of pattern_found (state_of page filters) → new ≡ (rounded pattern_found (state_of page filters)).page →
-      IsGiven filters pending (dirtied_without (map (λ row. row.node) rows) (state_of page filters)) → budget_of (state_of new filters) (pended filters pending) ≡ round_budget self
-  rounds_budget rows are at given =
-      given_budget new filters pending (dirtied_without (map (λ row. row.node) rows) (state_of page filters)) given
-      ∙ ap (λ (p : PageState). budget_of (state_of p filters) (dirtied_without (map (λ row. row.node) rows) (state_of page filters))) at
-      ∙ ap (λ (r : List Taken). budget_of (rounded pattern_found (state_of page filters)) (dirtied_without (map (λ row. row.node) r) (state_of page filters))) are
-      ∙ ap round_budget view
+-- the pairs that are given, on the page behind an event
+pub event_asks : (new behind : PageState) (filters : FilterSet) (pending : Noted) (given : Pairs) → new ≡ behind → IsGiven filters pending given →
+    budget_of (state_of new filters) (pended filters pending) ≡ budget_of (state_of behind filters) given
+event_asks new behind filters pending given at h =
+    given_budget new filters pending given h ∙ ap (λ (p : PageState). budget_of (state_of p filters) given) at

@@ -1,5 +1,5 @@
 -- What an event leaves: the page where nothing was changed, and the page behind a round.
-use Rattle.std.proofs.Common.{◌≡◌, ℕ, zero, suc, true, false, List, [], ◌∷◌, map, length, Result, Ok, Err, IsErr, refl, sym, ap, ◌∙◌}
+use Rattle.std.proofs.Common.{◌≡◌, ℕ, zero, suc, true, false, List, [], ◌∷◌, map, length, Result, Ok, Err, IsErr, refl, sym, ap, ap₂, ◌∙◌}
 use Rattle.std.specs.Prelude.{is_ok}
 use Rattle.std.specs.Result.{result_unwrap_or}
 use Rattle.cos_patterns.specs.Found.{pattern_found}
@@ -13,9 +13,11 @@ use Rattle.mutation_script.specs.declared.answer.Outcome.TheVariants.{Done, Refu
 use Rattle.mutation_script.specs.Changes.{outcome_of}
 use Rattle.selector_tree.specs.declared.filter.Taken.{Taken}
 use Rattle.engine_meaning.specs.Rounds.{without_each}
-use Rattle.engine_meaning.specs.States.{rounded, round_of}
+use Rattle.engine_meaning.specs.States.{State, rounded, round_of}
 use Rattle.engine_meaning.proofs.Outermost.{each-round}
 use Rattle.hide_engine.specs.declared.filter_set.FilterSet.{FilterSet}
+use Rattle.hide_engine.specs.Budgets.{budget_of, round_budget}
+use Rattle.hide_engine.specs.Changes.{dirtied_without}
 use Rattle.hide_engine.specs.Ready.{state_of}
 
 -- a refused change leaves the page as it is
@@ -66,3 +68,10 @@ module _ (page : PageState) (filters : FilterSet) (tree : IsTree page.tree) (row
       nothing : (l : List Taken) → length l ≡ 0 → l ≡ []
       nothing [] e = refl
       nothing (row ∷ l) e = absurd (let no : suc (length l) ≡ zero = e in cc)
+
+  -- what the rows make dirty is asked within the bound of the round
+  pub round_asks : budget_of (state_of (record page { tree = without_each page.tree (map (λ row. row.node) rows) }) filters) (dirtied_without (map (λ row. row.node) rows) (state_of page filters))
+      ≡ round_budget (state_of page filters)
+  round_asks =
+      ap₂ (λ (s : State) (l : List Taken). budget_of s (dirtied_without (map (λ row. row.node) l) (state_of page filters)))
+      (behind_round (record page { tree = without_each page.tree (map (λ row. row.node) rows) }) refl) are

@@ -8,17 +8,16 @@ ghost use Rattle.mutation_script.specs.Changes.{change, outcome_of};
 ghost use Rattle.mutation_script.specs.Inserted.{inserted};
 ghost use Rattle.hide_engine.specs.Exact.{AreExact};
 
-use crate::asking::{ask_again, ask_everything};
+use crate::asking::ask_everything;
 use crate::filter_set::FilterSet;
-use crate::making::make;
-use crate::removing::{take_out_all, taken_rows};
+use crate::removing::taken_rows;
+use crate::renewing::{mutate, take};
 use crate::rows::hidden_rows;
 use cos_outside::Steps;
 use cos_patterns::PatternTable;
 use dom_arena::Dom;
 use kept_marks::Marks;
 use mutation_script::{Mutation, Outcome, PageState};
-use retest::Pending;
 use selector_tree::{Active, Rows, TakenList};
 use std::alloc::{AllocError, Global};
 use std::marker::Model;
@@ -96,28 +95,23 @@ impl Engine {
             filters,
             mut marks,
         } = self;
-        let mut pending = Pending::new(alloc);
-        match make(alloc, &mut page, &filters, mutation, &mut marks, &mut pending)? {
-            Outcome::Refused(error) => Ok((
-                Engine {
-                    page,
-                    filters,
-                    marks,
-                },
-                Outcome::Refused(error),
-            )),
-            Outcome::Done => {
-                ask_again(alloc, &page, &filters, &pending, &mut marks, checks, parts)?;
-                Ok((
-                    Engine {
-                        page,
-                        filters,
-                        marks,
-                    },
-                    Outcome::Done,
-                ))
-            }
-        }
+        let outcome = mutate(
+            alloc,
+            &mut page,
+            &filters,
+            mutation,
+            &mut marks,
+            checks,
+            parts,
+        )?;
+        Ok((
+            Engine {
+                page,
+                filters,
+                marks,
+            },
+            outcome,
+        ))
     }
 
     /// Takes all elements that some filter removes out of the page, and answers the outermost of them, as taken in round 1.
@@ -143,16 +137,15 @@ impl Engine {
             filters,
             mut marks,
         } = self;
-        let mut pending = Pending::new(alloc);
-        take_out_all(
+        take(
             alloc,
             &mut page,
             &filters,
             rows.as_slice(),
             &mut marks,
-            &mut pending,
+            checks,
+            parts,
         )?;
-        ask_again(alloc, &page, &filters, &pending, &mut marks, checks, parts)?;
         Ok((
             Engine {
                 page,

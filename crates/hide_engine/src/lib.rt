@@ -14,6 +14,7 @@ mod making;
 mod noting;
 mod planned;
 mod removing;
+mod renewing;
 mod rows;
 
 pub use engine::Engine;
