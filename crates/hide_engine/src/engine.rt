@@ -10,8 +10,7 @@ ghost use Rattle.hide_engine.specs.Exact.{AreExact};
 
 use crate::asking::ask_everything;
 use crate::filter_set::FilterSet;
-use crate::removing::taken_rows;
-use crate::renewing::{mutate, take};
+use crate::renewing::{mutate, take_round};
 use crate::rows::hidden_rows;
 use cos_outside::Steps;
 use cos_patterns::PatternTable;
@@ -127,25 +126,12 @@ impl Engine {
         ensures quiet { round_of pattern_found self ≡ [] → checks.new ≡ checks.old }
         ensures checks { checks.new ≤ checks.old + round_budget self }
     {
-        self.page.tree.is_tree();
-        let rows = taken_rows(alloc, &self.page, &self.filters.active, &self.marks)?;
-        if rows.len() == 0 {
-            return Ok((self, rows));
-        }
         let Engine {
             mut page,
             filters,
             mut marks,
         } = self;
-        take(
-            alloc,
-            &mut page,
-            &filters,
-            rows.as_slice(),
-            &mut marks,
-            checks,
-            parts,
-        )?;
+        let rows = take_round(alloc, &mut page, &filters, &mut marks, checks, parts)?;
         Ok((
             Engine {
                 page,
