@@ -95,13 +95,7 @@ impl Engine {
             mut marks,
         } = self;
         let outcome = mutate(
-            alloc,
-            &mut page,
-            &filters,
-            mutation,
-            &mut marks,
-            checks,
-            parts,
+            alloc, &mut page, &filters, mutation, &mut marks, checks, parts,
         )?;
         Ok((
             Engine {

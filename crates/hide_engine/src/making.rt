@@ -51,7 +51,15 @@ pub(crate) fn make(
         Outcome::Done => {
             page.tree.is_tree();
             let change = planned.made(alloc, &page.tree)?;
-            follow(alloc, page, filters, &change, gone.as_slice(), marks, pending)?;
+            follow(
+                alloc,
+                page,
+                filters,
+                &change,
+                gone.as_slice(),
+                marks,
+                pending,
+            )?;
             Ok(Outcome::Done)
         }
     }
@@ -82,7 +90,15 @@ pub(crate) fn take_out(
         Ok(()) => {
             page.tree.is_tree();
             let change = Change::Went { parent };
-            follow(alloc, page, filters, &change, gone.as_slice(), marks, pending)
+            follow(
+                alloc,
+                page,
+                filters,
+                &change,
+                gone.as_slice(),
+                marks,
+                pending,
+            )
         }
     }
 }
@@ -116,5 +132,11 @@ fn follow(
         IsGiven filters.now pending.new (either given (is_dirty change.now (state_of page.now filters.now)))) }
 {
     drop_all(marks, gone);
-    note(alloc, &page.tree, filters.groups.sets.as_slice(), change, pending)
+    note(
+        alloc,
+        &page.tree,
+        filters.groups.sets.as_slice(),
+        change,
+        pending,
+    )
 }

@@ -23,7 +23,11 @@ pub(crate) enum Planned {
     /// The change.
     Known(Change),
     /// Nodes come to a place among the children of a parent, which has so many before.
-    Comes { parent: u32, place: u32, children: usize },
+    Comes {
+        parent: u32,
+        place: u32,
+        children: usize,
+    },
 }
 
 impl Planned {
@@ -43,13 +47,11 @@ impl Planned {
             Mutation::Delete { n } => Planned::Known(Change::Went {
                 parent: dom.parent(*n).unwrap_or(0),
             }),
-            Mutation::Relink { n, parent, .. } => Planned::Known(
-                Change::Moved {
-                    node: *n,
-                    old_parent: dom.parent(*n).unwrap_or(0),
-                    new_parent: *parent,
-                },
-            ),
+            Mutation::Relink { n, parent, .. } => Planned::Known(Change::Moved {
+                node: *n,
+                old_parent: dom.parent(*n).unwrap_or(0),
+                new_parent: *parent,
+            }),
             Mutation::Path { .. } => Planned::Known(Change::Path),
         })
     }
@@ -66,10 +68,12 @@ impl Planned {
                 parent,
                 place,
                 children,
-            } => { Ok(Change::Came {
-                parent,
-                tops: children_at(alloc, dom, parent, place, children)?,
-            }) }
+            } => {
+                Ok(Change::Came {
+                    parent,
+                    tops: children_at(alloc, dom, parent, place, children)?,
+                })
+            }
         }
     }
 }
