@@ -1,9 +1,9 @@
 -- What a change leaves in the tree: the nodes that it names, and each element but those that went.
-use Rattle.std.proofs.Common.{◌≡◌, ℕ, ◌<◌, ◌+◌, ◌≤◌, Bool, true, false, ◌&&◌, ◌==◌, not, List, [], ◌∷◌, Option, Some, None, refl, sym, ap, subst, ◌∙◌, inl, inr, ◌⊎◌, arith}
+use Rattle.std.proofs.Common.{◌≡◌, ℕ, ◌<◌, ◌+◌, Bool, true, false, ◌==◌, not, List, [], Some, None, refl, sym, ap, subst, ◌∙◌, inl, inr, arith}
 use Rattle.std.specs.Prelude.{unwrap_or}
 use Rattle.std.proofs.lemmas.Bool.{eqb-true, cases_eq, or_right}
-use Rattle.page_tree.specs.Forest.{Content, document, element, text, comment, Forest, empty, node, Tree, rooted, same, count, find, children, content, parent_in}
-use Rattle.page_tree.specs.Edits.{with_content, alone, subtree}
+use Rattle.page_tree.specs.Forest.{document, element, text, comment, Forest, empty, node, Tree, same, count, find, children, content}
+use Rattle.page_tree.specs.Edits.{alone}
 use Rattle.page_tree.specs.Standings.{all}
 use Rattle.page_tree.specs.Directions.{is_in}
 use Rattle.page_tree.specs.Refusals.{parent_among, parent_refused}
@@ -17,7 +17,7 @@ use Rattle.page_tree.specs.Trees.{IsOrdinary}
 use Rattle.selector_meaning.specs.Texts.{Bytes}
 use Rattle.sensor_meaning.specs.declared.change.Change.{Change}
 use Rattle.sensor_meaning.specs.declared.change.Change.TheVariants.{Attr as AttrOf, Chars, Came, Went, Moved, Path as PathOf}
-use Rattle.sensor_meaning.specs.Changes.{parent_of, IsChild, SetsAttr, SetsText, Becomes}
+use Rattle.sensor_meaning.specs.Changes.{IsChild, SetsAttr, SetsText, Becomes}
 use Rattle.sensor_laws.proofs.Any.{here, and_parts, and-true}
 use Rattle.sensor_laws.proofs.Relations.{cases}
 use Rattle.sensor_laws.proofs.Events.{cut, IsPart, event_of}
@@ -26,7 +26,7 @@ use Rattle.sensor_laws.proofs.MovedFrame.{moved_frame}
 use Rattle.sensor_laws.proofs.Completeness.{attr_frame, chars_frame}
 use Rattle.sensor_laws.proofs.Tops.{numbered, nodes_once, goes_with, is_part, without_part, cut_one, parent_counted}
 use Rattle.sensor_laws.specs.Frame.{Frame}
-use Rattle.change_laws.proofs.Came.{only, one_child, clash}
+use Rattle.change_laws.proofs.Came.{only, one_child}
 use Rattle.change_laws.proofs.Made.{well_formed}
 use Rattle.dependency_sets.specs.Reaching.{IsPlace}
 use Rattle.dependency_sets.specs.Named.{IsNamed}

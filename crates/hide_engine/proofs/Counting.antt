@@ -1,6 +1,6 @@
 -- The pairs that are asked again are those that are given.
-use Rattle.std.proofs.Common.{◌≡◌, ℕ, ◌<◌, ◌+◌, ◌≤◌, Bool, true, false, ◌&&◌, List, [], ◌∷◌, length, cond, map, refl, sym, ap, ap₂, ◌∙◌, inl, inr, subst}
-use Rattle.std.specs.List.{count_by, range_with_len, sum_by}
+use Rattle.std.proofs.Common.{◌≡◌, ℕ, ◌+◌, false, ◌&&◌, List, [], ◌∷◌, length, cond, refl, sym, ap, ap₂, ◌∙◌, inl, inr}
+use Rattle.std.specs.List.{count_by, range_with_len}
 use Rattle.std.proofs.Math.Bool as bool
 use Rattle.std.proofs.lemmas.Bool.{cases_lt}
 use Rattle.std.proofs.lemmas.List.Sums.{sum_by-cons}

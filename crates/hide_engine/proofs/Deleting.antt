@@ -1,10 +1,10 @@
 -- Nodes that are deleted one after another.
-use Rattle.std.proofs.Common.{◌≡◌, ℕ, ◌<◌, ◌+◌, Bool, true, false, ◌&&◌, ◌||◌, List, [], ◌∷◌, ◌++◌, Option, Some, None, Result, Ok, Err, IsOk, MatchOption, refl, sym, ap, ap₂, subst, ◌∙◌, inl, inr, arith, map, take, get_or, length}
+use Rattle.std.proofs.Common.{◌≡◌, ℕ, ◌<◌, ◌+◌, Bool, true, false, ◌&&◌, ◌||◌, List, [], ◌∷◌, ◌++◌, Option, Some, None, Result, Ok, Err, IsOk, MatchOption, refl, sym, ap, ◌∙◌, inl, inr, arith, map, take, get_or, length}
 use Rattle.std.specs.Prelude.{is_ok}
 use Rattle.std.specs.Result.{result_unwrap_or}
 use Rattle.std.proofs.lemmas.Bool.{cases_eq, ne_eqb}
 use Rattle.std.proofs.lemmas.List.{map-append, take_more}
-use Rattle.page_tree.specs.Forest.{Forest, empty, Tree, rooted, count, find, or_else}
+use Rattle.page_tree.specs.Forest.{Forest, empty, Tree, count, or_else}
 use Rattle.page_tree.specs.Edits.{detached}
 use Rattle.page_tree.specs.Refusals.{Refusal, detach_refused, node_among}
 use Rattle.page_tree.specs.Trees.{IsTree}

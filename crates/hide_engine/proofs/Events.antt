@@ -1,5 +1,5 @@
 -- What an event leaves: the page where nothing was changed, and the page behind a round.
-use Rattle.std.proofs.Common.{◌≡◌, ℕ, zero, suc, true, false, List, [], ◌∷◌, map, length, Result, Ok, Err, IsErr, refl, sym, ap, ap₂, ◌∙◌}
+use Rattle.std.proofs.Common.{◌≡◌, zero, suc, true, false, List, [], ◌∷◌, map, length, Result, Ok, Err, IsErr, refl, sym, ap, ap₂, ◌∙◌}
 use Rattle.std.specs.Prelude.{is_ok}
 use Rattle.std.specs.Result.{result_unwrap_or}
 use Rattle.cos_patterns.specs.Found.{pattern_found}

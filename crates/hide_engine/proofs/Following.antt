@@ -1,5 +1,5 @@
 -- What follows a change keeps the marks right, and just what it made dirty is pending.
-use Rattle.std.proofs.Common.{◌≡◌, ℕ, ◌<◌, ◌≤◌, Bool, true, false, ◌&&◌, ◌||◌, not, List, [], ◌∷◌, length, Result, Ok, Err, refl, sym, ap, ap₂, ◌∙◌, inl, inr, ◌⊎◌}
+use Rattle.std.proofs.Common.{◌≡◌, ℕ, ◌<◌, ◌≤◌, true, false, ◌&&◌, ◌||◌, not, List, [], length, Result, Ok, Err, refl, sym, ap, ap₂, ◌∙◌, inl, inr}
 use Rattle.std.specs.Prelude.{unwrap_or, option_map, OnOk}
 use Rattle.std.proofs.lemmas.Bool.{cases_lt}
 use Rattle.std.proofs.lemmas.Option.{slice_get_past}
@@ -7,7 +7,6 @@ use Rattle.cos_patterns.specs.Found.{pattern_found}
 use Rattle.page_tree.specs.Forest.{Tree}
 use Rattle.page_tree.specs.Standings.{all}
 use Rattle.page_tree.specs.Directions.{is_in}
-use Rattle.page_tree.specs.Trees.{IsTree}
 use Rattle.proper_filters.specs.Proper.{is_proper}
 use Rattle.selector_tree.specs.declared.filter.Filter.{Filter}
 use Rattle.selector_tree.specs.declared.filter.Action.TheVariants.{Hide}
@@ -27,8 +26,8 @@ use Rattle.change_laws.proofs.Seen.{proper_is_outer, change_is_seen}
 use Rattle.dependency_sets.proofs.SameSets.{same_dirty}
 use Rattle.kept_marks.specs.Kept.{is_marked}
 use Rattle.retest.specs.Asked.{group_in}
-use Rattle.retest.specs.Noted.{Noted, is_pending}
-use Rattle.retest_laws.specs.Pending.{Pairs, IsRightBut, SeesChange, among, either}
+use Rattle.retest.specs.Noted.{Noted}
+use Rattle.retest_laws.specs.Pending.{Pairs, SeesChange, among, either}
 use Rattle.retest_laws.proofs.Notes.{noted, alike, more, dropped, at_rest}
 use Rattle.hide_engine.specs.declared.filter_set.FilterSet.{FilterSet}
 use Rattle.hide_engine.specs.Changes.{is_dirty}

@@ -1,12 +1,12 @@
 -- Groups get their filters one after another.
-use Rattle.std.proofs.Common.{◌≡◌, ℕ, zero, suc, ◌<◌, ◌+◌, ◌≤◌, Bool, true, false, cond, List, [], ◌∷◌, ◌++◌, Option, Some, None, length, get_or, refl, sym, ap, ap₂, subst, ◌∙◌, inl, inr, arith}
+use Rattle.std.proofs.Common.{◌≡◌, ℕ, zero, suc, ◌<◌, ◌+◌, true, cond, List, [], ◌∷◌, ◌++◌, Some, length, get_or, refl, sym, ap, ap₂, subst, ◌∙◌, inl, inr, arith}
 use Rattle.std.specs.List.{list_any}
 use Rattle.std.specs.BTreeMap.{BTreeMap, get, Updates}
 use Rattle.std.specs.Cmp.Lexicographic.{slice_cmp}
 use Rattle.std.specs.declared.cmp.Ordering.{Ordering}
 use Rattle.std.specs.declared.cmp.Ordering.TheVariants.{Less, Equal, Greater}
 use Rattle.std.specs.Ordering.{is_eq, ordering_then}
-use Rattle.std.specs.Prelude.{slice_get, unwrap_or}
+use Rattle.std.specs.Prelude.{unwrap_or}
 use Rattle.std.proofs.lemmas.Bool.{cases_Bool, cases_eq}
 use Rattle.std.proofs.lemmas.List.{get_or_append_left, length-append}
 use Rattle.std.proofs.Math.Seq.{get_or-append_seam}
@@ -17,7 +17,7 @@ use Rattle.sensor_meaning.specs.Sensors.{Sensors, sensors}
 use Rattle.sensor_meaning.proofs.Exact.{exact}
 use Rattle.dependency_sets.specs.Same.{AreSame}
 use Rattle.retest.specs.Asked.{group_in}
-use Rattle.hide_engine.specs.Groups.{set_at, HasSet, Begins, AreNumbered, AreGrouped}
+use Rattle.hide_engine.specs.Groups.{HasSet, Begins, AreNumbered}
 
 -- ---- equal sets
 

@@ -1,11 +1,11 @@
 -- Each mutation that is made is a change of its kind.
-use Rattle.std.proofs.Common.{◌≡◌, ℕ, ◌-◌, Bool, true, false, ◌&&◌, ◌||◌, not, take, drop, ap₂, List, [], ◌∷◌, Option, Some, None, Result, Ok, Err, refl, sym, ap, subst, ◌∙◌, inl, inr, ◌⊎◌}
+use Rattle.std.proofs.Common.{◌≡◌, ℕ, ◌-◌, Bool, true, false, ◌&&◌, ◌||◌, not, take, drop, ap₂, List, [], ◌∷◌, Option, Some, None, refl, sym, ap, subst, ◌∙◌}
 use Rattle.std.specs.Prelude.{unwrap_or, is_ok}
 use Rattle.std.specs.Str.{str_to_ascii_lowercase}
 use Rattle.std.specs.Result.{result_unwrap_or}
 use Rattle.page_tree.specs.Forest.{Tree, rooted, find, children, parent_in, tops}
-use Rattle.page_tree.specs.Edits.{with_attr_set, with_attr_dropped, with_text, detached, moved, children_of}
-use Rattle.page_tree.specs.Fragments.{fragment_nodes, with_fragment}
+use Rattle.page_tree.specs.Edits.{detached, children_of}
+use Rattle.page_tree.specs.Fragments.{with_fragment}
 use Rattle.page_tree.specs.Refusals.{Refusal, attr_refused, text_refused, detach_refused, parent_refused, place_refused, graft_refused, relink_refused}
 use Rattle.page_tree.specs.Standings.{all}
 use Rattle.page_tree.specs.Directions.{is_in}
@@ -19,7 +19,6 @@ use Rattle.mutation_script.specs.declared.mutation.Mutation.{Mutation}
 use Rattle.mutation_script.specs.declared.mutation.Mutation.TheVariants.{SetAttr, DropAttr, SetText, Insert, Delete, Relink, Path}
 use Rattle.mutation_script.specs.declared.page.PageState.{PageState}
 use Rattle.mutation_script.specs.Changes.{unless_refused, change, changed}
-use Rattle.selector_meaning.specs.Texts.{Bytes}
 use Rattle.sensor_meaning.specs.declared.change.Change.{Change}
 use Rattle.sensor_meaning.specs.declared.change.Change.TheVariants.{Attr as AttrOf, Chars, Came, Went, Moved, Path as PathOf}
 use Rattle.sensor_meaning.specs.Changes.{parent_of, Becomes}

@@ -1,5 +1,5 @@
 -- What a change made dirty is noted, one group after another.
-use Rattle.std.proofs.Common.{◌≡◌, ℕ, ◌<◌, ◌+◌, ◌≤◌, Bool, true, false, ◌&&◌, ◌||◌, ◌==◌, ◌⊎◌, List, [], ◌∷◌, length, get_or, refl, sym, ap, ap₂, ◌∙◌, inl, inr, arith}
+use Rattle.std.proofs.Common.{◌≡◌, ℕ, ◌+◌, ◌≤◌, Bool, true, false, ◌&&◌, ◌||◌, ◌==◌, ◌⊎◌, List, [], ◌∷◌, length, refl, sym, ap, ap₂, ◌∙◌, inl, inr, arith}
 use Rattle.std.specs.Prelude.{nat_lt}
 use Rattle.std.specs.List.{list_any}
 use Rattle.std.proofs.Math.ListN.{get_or-eq_default}
@@ -10,7 +10,7 @@ use Rattle.page_tree.specs.Standings.{all}
 use Rattle.page_tree.specs.Directions.{is_in}
 use Rattle.sensor_meaning.specs.declared.change.Change.{Change}
 use Rattle.sensor_meaning.specs.Changes.{observes, places_of}
-use Rattle.sensor_meaning.specs.Dirty.{dirty, brought, is_reached, hit, spread}
+use Rattle.sensor_meaning.specs.Dirty.{brought, is_reached, hit, spread}
 use Rattle.sensor_meaning.specs.Sensors.{Sensors}
 use Rattle.sensor_laws.proofs.Any.{is_in-filter, or_none, and-swap}
 use Rattle.retest.specs.Noted.{Noted, is_pending}

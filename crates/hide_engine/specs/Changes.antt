@@ -1,5 +1,5 @@
 -- The change that a mutation is where it isn't refused, and what it makes dirty.
-use Rattle.std.specs.Prelude.{ℕ, Bool, false, ◌&&◌, ◌||◌, List, [], ◌∷◌, is_ok}
+use Rattle.std.specs.Prelude.{ℕ, false, ◌&&◌, ◌||◌, List, [], ◌∷◌, is_ok}
 use Rattle.std.specs.Str.{str_to_ascii_lowercase}
 use Rattle.page_tree.specs.Forest.{Tree, tops}
 use Rattle.page_tree.specs.Directions.{is_in}

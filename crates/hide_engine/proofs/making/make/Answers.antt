@@ -3,9 +3,6 @@ use Rattle.std.specs.Prelude.{is_ok}
 use Rattle.mutation_script.specs.declared.page.PageState.{PageState}
 use Rattle.mutation_script.specs.Changes.{change}
 use Rattle.page_tree.specs.Directions.{is_in}
-use Rattle.page_tree.specs.Forest.{Tree}
-use Rattle.sensor_meaning.specs.declared.change.Change.{Change}
-use Rattle.hide_engine.specs.Changes.{change_of}
 use Rattle.hide_engine.specs.Ready.{IsRight}
 use Rattle.hide_engine.proofs.Events.{unchanged, not_refused, is_made, is_refused}
 use Rattle.hide_engine.proofs.Mutations.{known_names, known_step, known_dirty, none_dirty}

@@ -1,4 +1,4 @@
-use Rattle.std.proofs.Common.{List, ℕ, subst, sym}
+use Rattle.std.proofs.Common.{subst, sym}
 use Rattle.selector_match.proofs.Beside.{forth_falls}
 use Rattle.hide_engine.proofs.Children.{Walks, walk_start, walk_more}
 use Rattle.hide_engine.proofs.planned.children_of.Goals as goal

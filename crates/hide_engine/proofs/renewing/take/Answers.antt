@@ -1,4 +1,4 @@
-use Rattle.std.proofs.Common.{◌≡◌, ◌≤◌, ◌+◌, false, map, subst}
+use Rattle.std.proofs.Common.{◌≤◌, ◌+◌, false, map, subst}
 use Rattle.retest.specs.Asked.{group_in}
 use Rattle.engine_meaning.specs.Rounds.{without_each}
 use Rattle.hide_engine.specs.Changes.{dirtied_without}

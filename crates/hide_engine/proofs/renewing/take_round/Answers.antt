@@ -1,4 +1,4 @@
-use Rattle.std.proofs.Common.{◌≡◌, ◌≤◌, ◌+◌, List, length, ap, sym, subst, ◌∙◌}
+use Rattle.std.proofs.Common.{◌≤◌, ◌+◌, List, length, ap, sym, subst, ◌∙◌}
 use Rattle.selector_tree.specs.declared.filter.Taken.{Taken}
 use Rattle.hide_engine.proofs.Events.{behind_round, no_round, round_asks}
 use Rattle.hide_engine.proofs.renewing.take_round.Goals as goal

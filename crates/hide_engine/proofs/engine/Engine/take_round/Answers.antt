@@ -1,4 +1,4 @@
-use Rattle.std.proofs.Common.{◌≡◌, ◌≤◌, ◌+◌, ap, subst, ◌∙◌}
+use Rattle.std.proofs.Common.{◌≤◌, ◌+◌, ap, subst, ◌∙◌}
 use Rattle.cos_patterns.specs.Found.{pattern_found}
 use Rattle.engine_meaning.specs.States.{State, rounded, round_of}
 use Rattle.hide_engine.specs.Budgets.{round_budget}
