@@ -40,11 +40,7 @@ pub is_refused : (change : Result PageState Refusal) (given : Outcome) (error : 
 is_refused (Ok new) given error e refused = absurd (let no : Done ≡ Refused error = sym e ∙ refused in cc)
 is_refused (Err refusal) given error e refused = refl
 
--- a refused change leaves the page as it is
-pub stays : (page : PageState) (change : Result PageState Refusal) → IsErr change → result_unwrap_or change page ≡ page
-stays page (Ok new) refused = absurd (let no : false ≡ true = refused in cc)
-stays page (Err refusal) refused = refl
-
+-- a change whose outcome is a refusal is refused
 pub errs : (change : Result PageState Refusal) (given : Outcome) (error : DomError) → given ≡ outcome_of change → given ≡ Refused error → IsErr change
 errs (Ok new) given error e refused = absurd (let no : Done ≡ Refused error = sym e ∙ refused in cc)
 errs (Err refusal) given error e refused = refl
