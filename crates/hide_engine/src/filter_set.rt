@@ -1,21 +1,18 @@
 ghost use Rattle.std.specs.Prelude.{◌≡◌, ◌<◌, ◌^◌, length, IfOk};
 ghost use Rattle.engine_meaning.specs.Filters.{AreAskable};
 ghost use Rattle.hide_engine.specs.Exact.{AreFiled};
-ghost use Rattle.hide_engine.specs.Ready.{AreReady};
 
-use crate::groups::Groups;
 use cos_patterns::PatternTable;
 use generic_tables::FilterTable;
 use selector_tree::Active;
 use std::alloc::{AllocError, Global};
 
-/// The filters of an engine, with the table of their patterns, by the keys of their chains, and by the sets of their sensors.
+/// The filters of an engine, with the table of their patterns, and by the keys of their chains.
 #[derive(Drop)]
 pub(crate) struct FilterSet {
     pub(crate) table: PatternTable,
     pub(crate) active: Active,
     pub(crate) keyed: FilterTable,
-    pub(crate) groups: Groups,
 }
 
 impl FilterSet {
@@ -27,15 +24,14 @@ impl FilterSet {
     ) -> Result<FilterSet, AllocError>
         requires { AreAskable table.patterns active }
         ensures active { IfOk result (λ set. set.active ≡ active) }
-        ensures ready { IfOk result (λ set. AreReady set) }
+        ensures askable { IfOk result (λ set. AreAskable set.table.patterns set.active) }
+        ensures filed { IfOk result (λ set. AreFiled set.active set.keyed) }
     {
         let keyed = filed(alloc, &active)?;
-        let groups = Groups::of(alloc, &active)?;
         Ok(FilterSet {
             table,
             active,
             keyed,
-            groups,
         })
     }
 }
