@@ -4,3 +4,11 @@ mod Taking
 mod Names
 mod Events
 mod Filing
+mod Changed
+mod Mutations
+mod Following
+mod Counting
+mod Grouping
+mod Children
+mod NotedGroups
+mod Deleting

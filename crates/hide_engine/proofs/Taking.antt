@@ -4,8 +4,6 @@ use Rattle.std.specs.List.{list_any}
 use Rattle.std.proofs.Math.Bool as bool
 use Rattle.std.proofs.lemmas.Bool.{cases_Bool, cases_eq, eqb-true, ne_eqb}
 use Rattle.std.proofs.lemmas.List.{map-append, take_more}
-use Rattle.std.specs.Prelude.{nat_lt}
-use Rattle.std.proofs.lemmas.Bool.Decides.{nat_tests}
 use Rattle.std.proofs.lemmas.List.Elements.{filter-append}
 use Rattle.page_tree.specs.Forest.{Forest, empty, or_else, Tree, count}
 use Rattle.page_tree.specs.Trees.{IsTree}
@@ -134,9 +132,6 @@ each_row t rows i here h is =
     ∙ ap (without_each t) (map-append (λ (r : Taken). r.node) (take i rows) (get_or rows i here ∷ []))
     ∙ each_more t (map (λ r. r.node) (take i rows)) (get_or rows i here).node
     ∙ ap (λ (r : Taken). detached r.node (without_each t (map (λ r. r.node) (take i rows)))) (sym is)
-
-pub some_taken : (n : ℕ) → true ≡ nat_lt 0 (n + 1)
-some_taken n = grind (arith, nat_tests)
 
 -- ---- ancestors
 

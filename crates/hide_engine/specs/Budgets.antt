@@ -1,10 +1,13 @@
 -- How many questions an event may take: so many pairs of a filter and an element that carries a key of it.
-use Rattle.std.specs.Prelude.{ℕ, true, length}
+use Rattle.std.specs.Prelude.{ℕ, true, length, map}
+use Rattle.cos_patterns.specs.Found.{pattern_found}
 use Rattle.page_tree.specs.Standings.{all}
+use Rattle.mutation_script.specs.declared.mutation.Mutation.{Mutation}
 use Rattle.procedural_ops.specs.Told.{selector_at}
 use Rattle.generic_tables.specs.Keys.{is_keyed}
 use Rattle.retest_laws.specs.Pending.{Pairs, budget}
-use Rattle.engine_meaning.specs.States.{State}
+use Rattle.engine_meaning.specs.States.{State, mutated, rounded, round_of}
+use Rattle.hide_engine.specs.Changes.{dirtied_by, dirtied_without}
 
 -- whether an element carries a key of the filter at a place
 abbrev pub carried : State → Pairs
@@ -17,3 +20,12 @@ budget_of s given = budget (length s.filters) (all s.page.tree) (carried s) give
 -- at the start all pairs are given
 abbrev pub start_budget : State → ℕ
 start_budget s = budget_of s (λ f x. true)
+
+-- by a mutation, the pairs that it makes dirty, of the page behind it
+abbrev pub event_budget : Mutation → State → ℕ
+event_budget mutation s = budget_of (mutated mutation s) (dirtied_by mutation s)
+
+-- by a round, what the taken elements make dirty that go one after another, of the page behind the last
+abbrev pub round_budget : State → ℕ
+round_budget s =
+    budget_of (rounded pattern_found s) (dirtied_without (map (λ row. row.node) (round_of pattern_found s)) s)

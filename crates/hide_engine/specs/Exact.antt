@@ -1,9 +1,7 @@
 -- When marks are the answers of filters on a page. A filter goes by its place in the list of filters.
 use Rattle.std.specs.Prelude.{◌≡◌, ℕ, Bool, ◌&&◌, List, map, nat_lt}
 use Rattle.std.specs.List.{list_any}
-use Rattle.cos_patterns.specs.declared.written.Written.{Written}
 use Rattle.cos_patterns.specs.Found.{pattern_found}
-use Rattle.engine_meaning.specs.Filters.{AreAskable}
 use Rattle.engine_meaning.specs.States.{State}
 use Rattle.generic_tables.specs.declared.filters.FilterTable.{FilterTable}
 use Rattle.generic_tables.specs.declared.keys.Key.{Key}
@@ -33,9 +31,3 @@ AreFiled filters keyed = (k : Key) (f : ℕ) → is_filed keyed k f ≡ list_any
 abbrev pub AreFiledBefore : ℕ → List Filter → FilterTable → Type 0
 AreFiledBefore n filters keyed =
     (k : Key) (f : ℕ) → is_filed keyed k f ≡ (nat_lt f n && list_any (same_key k) (map key_of_chain (selector_at filters f)))
-
--- what an engine keeps: its filters may be asked, they stand under their keys, and its marks are exact
-pub record IsKept (s : State) (patterns : List Written) (keyed : FilterTable) (rows : List (ℕ × List ℕ)) : Type 0 where
-  pub askable : AreAskable patterns s.filters
-  pub filed : AreFiled s.filters keyed
-  pub exact : AreExact s rows

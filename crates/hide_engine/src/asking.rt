@@ -1,61 +1,42 @@
-// Asking again what changes of the page may have touched.
-ghost use Rattle.std.specs.Prelude.{◌≡◌, ◌+◌, ◌≤◌, true, false, IfOk};
-ghost use Rattle.hide_engine.specs.Budgets.{start_budget};
-ghost use Rattle.engine_meaning.specs.Filters.{AreAskable};
-ghost use Rattle.hide_engine.specs.Exact.{AreExact, AreFiled};
+// Asking again what changes of the page may have touched, and all at the start.
+ghost use Rattle.std.specs.Prelude.{◌≡◌, ◌+◌, ◌≤◌, IfOk, OnOk};
+ghost use Rattle.hide_engine.specs.Budgets.{budget_of, start_budget};
+ghost use Rattle.hide_engine.specs.Exact.{AreExact};
+ghost use Rattle.hide_engine.specs.Ready.{state_of, pended, AreReady, IsRight};
 
 use crate::filter_set::FilterSet;
 use cos_outside::Steps;
 use kept_marks::Marks;
 use mutation_script::PageState;
-use retest::{Asking, start};
+use retest::{Asking, Pending, retest, start};
 use std::alloc::{AllocError, Global};
 use std::sync::ledger::Ledger;
 
-/// What has to be asked again after the changes of an event. For now a note stands for every element.
-#[derive(Drop)]
-pub(crate) struct Pending {
-    pub(crate) everything: bool,
-}
-
-impl Pending {
-    /// Nothing.
-    pub(crate) fn new() -> Pending
-        ensures { result.everything ≡ false }
-    {
-        Pending { everything: false }
-    }
-
-    /// Notes a change of the page.
-    pub(crate) fn note(&mut self)
-        ensures { self.new.everything ≡ true }
-    {
-        self.everything = true;
-    }
-}
-
-/// Asks again what is pending, and answers the marks as they then are. Where nothing is, they were exact.
-pub(crate) fn retest<L: Ledger, P: Ledger>(
+/// Asks again what is pending, and nothing else: a filter is asked of the elements at which its group is pending and that
+/// carry a key of it.
+pub(crate) fn ask_again<L: Ledger, P: Ledger>(
     alloc: Global,
     page: &PageState,
     filters: &FilterSet,
     pending: &Pending,
-    marks: Marks,
+    marks: &mut Marks,
     checks: &mut Steps<L>,
     parts: &mut Steps<P>,
-) -> Result<Marks, AllocError>
-    requires filters { AreAskable filters.now.table.patterns filters.now.active }
-    requires filed { AreFiled filters.now.active filters.now.keyed }
-    requires exact { pending.now.everything ≡ false →
-        AreExact (record { page = page.now; filters = filters.now.active }) marks }
-    ensures exact { IfOk result (λ marks. AreExact (record { page = page.now; filters = filters.now.active }) marks) }
-    ensures quiet { pending.now.everything ≡ false → checks.new ≡ checks.old }
-    ensures checks { checks.new ≤ checks.old + start_budget (record { page = page.now; filters = filters.now.active }) }
+) -> Result<(), AllocError>
+    requires ready { AreReady filters.now }
+    requires right { IsRight page.now filters.now marks.old pending.now }
+    ensures exact { OnOk result (AreExact (state_of page.now filters.now) marks.new) }
+    ensures checks { checks.new ≤ checks.old + budget_of (state_of page.now filters.now) (pended filters.now pending.now) }
 {
-    if !pending.everything {
-        return Ok(marks);
-    }
-    ask_everything(alloc, page, filters, checks, parts)
+    let asking = Asking {
+        dom: &page.tree,
+        path: page.path.as_str(),
+        table: &filters.table,
+        active: &filters.active,
+        keyed: &filters.keyed,
+        groups: filters.groups.numbers.as_slice(),
+    };
+    retest(alloc, &asking, pending, marks, checks, parts)
 }
 
 /// The marks of a page: each filter is asked of the elements that carry a key of it.
@@ -66,10 +47,9 @@ pub(crate) fn ask_everything<L: Ledger, P: Ledger>(
     checks: &mut Steps<L>,
     parts: &mut Steps<P>,
 ) -> Result<Marks, AllocError>
-    requires filters { AreAskable filters.now.table.patterns filters.now.active }
-    requires filed { AreFiled filters.now.active filters.now.keyed }
-    ensures exact { IfOk result (λ marks. AreExact (record { page = page.now; filters = filters.now.active }) marks) }
-    ensures checks { checks.new ≤ checks.old + start_budget (record { page = page.now; filters = filters.now.active }) }
+    requires { AreReady filters.now }
+    ensures exact { IfOk result (λ marks. AreExact (state_of page.now filters.now) marks) }
+    ensures checks { checks.new ≤ checks.old + start_budget (state_of page.now filters.now) }
 {
     let asking = Asking {
         dom: &page.tree,
@@ -77,7 +57,7 @@ pub(crate) fn ask_everything<L: Ledger, P: Ledger>(
         table: &filters.table,
         active: &filters.active,
         keyed: &filters.keyed,
-        groups: &[],
+        groups: filters.groups.numbers.as_slice(),
     };
     start(alloc, &asking, checks, parts)
 }

@@ -1,6 +1,6 @@
 ghost use Rattle.std.specs.Prelude.{◌≡◌, ◌+◌, ◌≤◌, [], map, IfOk, IsErr};
 ghost use Rattle.cos_patterns.specs.Found.{pattern_found};
-ghost use Rattle.hide_engine.specs.Budgets.{start_budget};
+ghost use Rattle.hide_engine.specs.Budgets.{start_budget, event_budget, round_budget};
 ghost use Rattle.engine_meaning.specs.Filters.{AreAskable};
 ghost use Rattle.engine_meaning.specs.Hidden.{pair_of};
 ghost use Rattle.engine_meaning.specs.States.{mutated, hidden_of, rounded, round_of};
@@ -8,9 +8,9 @@ ghost use Rattle.mutation_script.specs.Changes.{change, outcome_of};
 ghost use Rattle.mutation_script.specs.Inserted.{inserted};
 ghost use Rattle.hide_engine.specs.Exact.{AreExact};
 
-use crate::asking::{Pending, ask_everything, retest};
+use crate::asking::ask_everything;
 use crate::filter_set::FilterSet;
-use crate::removing::{take_out_all, taken_rows};
+use crate::renewing::{mutate, take_round};
 use crate::rows::hidden_rows;
 use cos_outside::Steps;
 use cos_patterns::PatternTable;
@@ -42,13 +42,11 @@ impl Model for Engine {
 
     ghost coded = { Prim.hlevel (codes, forest_code, step.the_row.coded) };
 
-    ghost use Rattle.hide_engine.specs.Exact.{IsKept};
+    ghost use Rattle.hide_engine.specs.Ready.{IsKept};
 
     ghost view = { λ engine. record { page = engine.page; filters = engine.filters.active } };
 
-    ghost invariant = { λ engine.
-        IsKept (record { page = engine.page; filters = engine.filters.active }) engine.filters.table.patterns engine.filters.keyed
-        engine.marks };
+    ghost invariant = { λ engine. IsKept engine.page engine.filters engine.marks };
 }
 
 impl Engine {
@@ -89,19 +87,16 @@ impl Engine {
         ensures engine { IfOk result (λ done. done.0 ≡ mutated mutation self) }
         ensures outcome { IfOk result (λ done. done.1 ≡ outcome_of (change mutation self.page)) }
         ensures refused { IsErr (change mutation self.page) → checks.new ≡ checks.old }
+        ensures checks { checks.new ≤ checks.old + event_budget mutation self }
     {
         let Engine {
             mut page,
             filters,
-            marks,
+            mut marks,
         } = self;
-        let mut pending = Pending::new();
-        let outcome = page.apply(alloc, mutation)?;
-        match outcome {
-            Outcome::Done => pending.note(),
-            Outcome::Refused(_) => {}
-        }
-        let marks = retest(alloc, &page, &filters, &pending, marks, checks, parts)?;
+        let outcome = mutate(
+            alloc, &mut page, &filters, mutation, &mut marks, checks, parts,
+        )?;
         Ok((
             Engine {
                 page,
@@ -123,16 +118,14 @@ impl Engine {
         ensures engine { IfOk result (λ done. done.0 ≡ rounded pattern_found self) }
         ensures taken { IfOk result (λ done. done.1 ≡ round_of pattern_found self) }
         ensures quiet { round_of pattern_found self ≡ [] → checks.new ≡ checks.old }
+        ensures checks { checks.new ≤ checks.old + round_budget self }
     {
-        let rows = taken_rows(alloc, &self.page, &self.filters.active, &self.marks)?;
         let Engine {
             mut page,
             filters,
-            marks,
+            mut marks,
         } = self;
-        page.tree.is_tree();
-        let pending = take_out_all(&mut page, rows.as_slice());
-        let marks = retest(alloc, &page, &filters, &pending, marks, checks, parts)?;
+        let rows = take_round(alloc, &mut page, &filters, &mut marks, checks, parts)?;
         Ok((
             Engine {
                 page,

@@ -1,18 +1,21 @@
 ghost use Rattle.std.specs.Prelude.{◌≡◌, ◌<◌, ◌^◌, length, IfOk};
 ghost use Rattle.engine_meaning.specs.Filters.{AreAskable};
 ghost use Rattle.hide_engine.specs.Exact.{AreFiled};
+ghost use Rattle.hide_engine.specs.Ready.{AreReady};
 
+use crate::groups::Groups;
 use cos_patterns::PatternTable;
 use generic_tables::FilterTable;
 use selector_tree::Active;
 use std::alloc::{AllocError, Global};
 
-/// The filters of an engine, with the table of their patterns, and by the keys of their chains.
+/// The filters of an engine, with the table of their patterns, by the keys of their chains, and by the sets of their sensors.
 #[derive(Drop)]
 pub(crate) struct FilterSet {
     pub(crate) table: PatternTable,
     pub(crate) active: Active,
     pub(crate) keyed: FilterTable,
+    pub(crate) groups: Groups,
 }
 
 impl FilterSet {
@@ -24,14 +27,15 @@ impl FilterSet {
     ) -> Result<FilterSet, AllocError>
         requires { AreAskable table.patterns active }
         ensures active { IfOk result (λ set. set.active ≡ active) }
-        ensures askable { IfOk result (λ set. AreAskable set.table.patterns set.active) }
-        ensures filed { IfOk result (λ set. AreFiled set.active set.keyed) }
+        ensures ready { IfOk result (λ set. AreReady set) }
     {
         let keyed = filed(alloc, &active)?;
+        let groups = Groups::of(alloc, &active)?;
         Ok(FilterSet {
             table,
             active,
             keyed,
+            groups,
         })
     }
 }

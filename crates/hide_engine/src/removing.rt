@@ -1,8 +1,7 @@
 // A round: what the filters that remove take out of a page.
-ghost use Rattle.std.specs.Prelude.{◌≡◌, ◌<◌, [], ◌++◌, true, false, length, map, nat_lt, IfOk, OnOk, OnErr};
+ghost use Rattle.std.specs.Prelude.{◌≡◌, [], ◌++◌, map, IfOk, OnOk};
 ghost use Rattle.std.specs.List.{list_any};
 ghost use Rattle.cos_patterns.specs.Found.{pattern_found};
-ghost use Rattle.page_tree.specs.Edits.{detached};
 ghost use Rattle.page_tree.specs.Standings.{name};
 ghost use Rattle.selector_match.specs.Asked.{IsElement};
 ghost use Rattle.selector_meaning.specs.Hidden.{with_row};
@@ -10,15 +9,20 @@ ghost use Rattle.engine_meaning.specs.Rounds.{is_outermost, taken_in, without_ea
 ghost use Rattle.hide_engine.specs.Exact.{AreExact};
 ghost use Rattle.hide_engine.specs.Chosen.{acts_at};
 ghost use Rattle.hide_engine.specs.Removing.{taken_rows};
+ghost use Rattle.retest_laws.specs.Pending.{Pairs, either};
+ghost use Rattle.hide_engine.specs.Changes.{dirtied_without};
+ghost use Rattle.hide_engine.specs.Ready.{state_of, AreReady, IsRight, IsGiven};
 ghost use Rattle.selector_tree.specs.declared.filter.Action.TheVariants.{Remove};
 
-use crate::asking::Pending;
+use crate::filter_set::FilterSet;
+use crate::making::take_out;
 use crate::rows::{acts_at, chosen};
 use dom_arena::Dom;
 use kept_marks::Marks;
 use listed::{Numbers, Text};
 use mutation_script::PageState;
 use procedural_ops::next_element;
+use retest::Pending;
 use selector_match::parent;
 use selector_tree::{Action, Active, Taken, TakenList};
 use std::alloc::{AllocError, Global};
@@ -112,25 +116,25 @@ fn some_removes(active: &Active, places: &[u32]) -> bool
     false
 }
 
-/// Takes elements out of the page one after another, each with all below it, and answers what has to be asked again.
-pub(crate) fn take_out_all(page: &mut PageState, rows: &[Taken]) -> Pending
-    ensures page { page.new ≡ record page.old { tree = without_each page.old.tree (map (λ row. row.node) rows.now) } }
-    ensures noted { result.everything ≡ nat_lt 0 (length rows.now) }
-{
-    let mut pending = Pending::new();
-    for row in rows {
-        take_out(page, row.node, &mut pending);
-    }
-    pending
-}
-
-// Takes a node out of the page with all below it, and notes that.
-fn take_out(page: &mut PageState, n: u32, pending: &mut Pending)
-    ensures page { page.new ≡ record page.old { tree = detached n page.old.tree } }
-    ensures noted { pending.new.everything ≡ true }
+/// Takes elements out of the page one after another, each with all below it, and notes what each makes dirty.
+pub(crate) fn take_out_all(
+    alloc: Global,
+    page: &mut PageState,
+    filters: &FilterSet,
+    rows: &[Taken],
+    marks: &mut Marks,
+    pending: &mut Pending,
+) -> Result<(), AllocError>
+    requires ready { AreReady filters.now }
+    requires right { IsRight page.old filters.now marks.old pending.old }
+    ensures page { OnOk result (page.new ≡ record page.old { tree = without_each page.old.tree (map (λ row. row.node) rows.now) }) }
+    ensures right { OnOk result (IsRight page.new filters.now marks.new pending.new) }
+    ensures given { OnOk result ((given : Pairs) → IsGiven filters.now pending.old given →
+        IsGiven filters.now pending.new (either given (dirtied_without (map (λ row. row.node) rows.now) (state_of page.old filters.now)))) }
 {
     page.tree.is_tree();
-    // Where there is no such node the page is as it was, and so it is without it.
-    let _ = page.tree.detach(n);
-    pending.note();
+    for row in rows {
+        take_out(alloc, page, filters, row.node, marks, pending)?;
+    }
+    Ok(())
 }

@@ -5,7 +5,11 @@ use Rattle.selector_meaning.specs.Meaning.{selects}
 use Rattle.procedural_ops.specs.Told.{selector_at}
 use Rattle.kept_marks.specs.Kept.{is_marked}
 use Rattle.retest_laws.specs.Pending.{IsExact}
+use Rattle.hide_engine.proofs.Following.{proper_at}
 use Rattle.hide_engine.proofs.asking.ask_everything.Goals as goal
+
+pub start-requires : goal.start-requires
+start-requires g c = record { proper = proper_at c.args.filters.now c.requires; filed = c.requires.filed }
 
 pub returns-clause-exact : goal.returns-clause-exact
 returns-clause-exact g c =
@@ -14,3 +18,6 @@ returns-clause-exact g c =
     (λ (path : List ℕ). IfOk c.start.result
     (λ marks. IsExact (all t) (λ f x. selects pattern_found t path (selector_at c.args.filters.now.active f) x) (is_marked marks)))
     c.as_str.ensures c.start.ensures.exact
+
+pub returns-clause-checks : goal.returns-clause-checks
+returns-clause-checks g c = c.start.ensures.checks

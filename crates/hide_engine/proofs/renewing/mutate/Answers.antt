@@ -1,0 +1,46 @@
+use Rattle.std.proofs.Common.{◌≤◌, ◌+◌, ℕ, List, false, sym, subst, ◌∙◌}
+use Rattle.mutation_script.specs.declared.page.PageState.{PageState}
+use Rattle.mutation_script.specs.Changes.{change, changed}
+use Rattle.retest.specs.Asked.{group_in}
+use Rattle.hide_engine.specs.Changes.{dirtied_by}
+use Rattle.hide_engine.specs.Exact.{AreExact}
+use Rattle.hide_engine.specs.Ready.{state_of}
+use Rattle.hide_engine.proofs.Counting.{event_asks}
+use Rattle.hide_engine.proofs.Events.{unchanged, errs, not_refused}
+use Rattle.hide_engine.proofs.Following.{rested}
+use Rattle.hide_engine.proofs.renewing.mutate.Goals as goal
+
+pub make-requires-clause-right : goal.make-requires-clause-right
+make-requires-clause-right g c = rested c.args.page.now c.args.filters.now c.args.marks.now c.new-pending.result c.requires.exact
+
+pub returns-in-Refused-clause-exact : goal.returns-in-Refused-clause-exact
+returns-in-Refused-clause-exact g c =
+    let page = c.args.page.now in
+    let filters = c.args.filters.now in
+    let outcome = c.in_ok-error.ensures.outcome in
+    subst (λ (p : PageState). AreExact (state_of p filters) c.make.new.marks)
+    (sym (c.in_ok-error.ensures.page ∙ unchanged page (change c.args.mutation page) c.in_ok-error.field-0 c.in-Refused.error outcome c.in-Refused.is))
+    (subst (λ (rows : List (ℕ × List ℕ)). AreExact (state_of page filters) rows)
+    (sym (c.in_ok-error.ensures.refused (errs (change c.args.mutation page) c.in_ok-error.field-0 c.in-Refused.error outcome c.in-Refused.is))) c.requires.exact)
+
+pub returns-clause-refused : goal.returns-clause-refused
+returns-clause-refused g c refused =
+    absurd (not_refused (change c.args.mutation c.args.page.now) c.in_ok-error.field-0 c.in_ok-error.ensures.outcome c.in-Done.is refused)
+
+pub returns-clause-checks : goal.returns-clause-checks
+returns-clause-checks g c =
+    let page = c.args.page.now in
+    let filters = c.args.filters.now in
+    subst (λ k. c.ask_again.new.checks ≤ c.args.checks.now + k)
+    (event_asks c.make.new.page (changed c.args.mutation page) filters c.make.new.pending (dirtied_by c.args.mutation (state_of page filters)) c.in_ok-error.ensures.page
+    (c.in_ok-error.ensures.given (λ f x. false) (λ f x lt. c.new-pending.ensures (group_in filters.groups.numbers f) x)))
+    c.ask_again.ensures.checks
+
+pub returns-in_err-ask_again-in-Done-clause-checks : goal.returns-in_err-ask_again-in-Done-clause-checks
+returns-in_err-ask_again-in-Done-clause-checks g c =
+    let page = c.args.page.now in
+    let filters = c.args.filters.now in
+    subst (λ k. c.ask_again.new.checks ≤ c.args.checks.now + k)
+    (event_asks c.make.new.page (changed c.args.mutation page) filters c.make.new.pending (dirtied_by c.args.mutation (state_of page filters)) c.in_ok-error.ensures.page
+    (c.in_ok-error.ensures.given (λ f x. false) (λ f x lt. c.new-pending.ensures (group_in filters.groups.numbers f) x)))
+    c.ask_again.ensures.checks

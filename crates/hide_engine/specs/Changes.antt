@@ -1,0 +1,42 @@
+-- The change that a mutation is where it isn't refused, and what it makes dirty.
+use Rattle.std.specs.Prelude.{ℕ, false, ◌&&◌, ◌||◌, List, [], ◌∷◌, is_ok}
+use Rattle.std.specs.Str.{str_to_ascii_lowercase}
+use Rattle.page_tree.specs.Forest.{Tree, tops}
+use Rattle.page_tree.specs.Directions.{is_in}
+use Rattle.page_tree.specs.Fragments.{fragment_nodes}
+use Rattle.html_meaning.specs.Page.{fragment}
+use Rattle.mutation_script.specs.declared.mutation.Mutation.{Mutation}
+use Rattle.mutation_script.specs.declared.mutation.Mutation.TheVariants.{SetAttr, DropAttr, SetText, Insert, Delete, Relink, Path}
+use Rattle.mutation_script.specs.Changes.{change}
+use Rattle.procedural_ops.specs.Told.{selector_at}
+use Rattle.sensor_meaning.specs.declared.change.Change.{Change}
+use Rattle.sensor_meaning.specs.declared.change.Change.TheVariants.{Attr as AttrOf, Chars, Came, Went, Moved, Path as PathOf}
+use Rattle.sensor_meaning.specs.Changes.{parent_of}
+use Rattle.sensor_meaning.specs.Dirty.{dirty}
+use Rattle.sensor_meaning.specs.Sensors.{sensors}
+use Rattle.retest_laws.specs.Pending.{Pairs}
+use Rattle.engine_meaning.specs.States.{State, mutated}
+
+-- by the tree before the mutation
+abbrev pub change_of : Mutation → Tree → Change
+change_of (SetAttr n name value) t = AttrOf n (str_to_ascii_lowercase name)
+change_of (DropAttr n name) t = AttrOf n (str_to_ascii_lowercase name)
+change_of (SetText n text) t = Chars n
+change_of (Insert parent place html) t = Came parent (tops (fragment_nodes t.next (fragment html)))
+change_of (Delete n) t = Went (parent_of t n)
+change_of (Relink n parent place) t = Moved n (parent_of t n) parent
+change_of (Path path) t = PathOf
+
+-- whether a change makes x dirty for the filter at a place, in the page just after the change
+abbrev pub is_dirty : Change → State → Pairs
+is_dirty change s f x = is_in (dirty change s.page.tree (sensors (selector_at s.filters f))) x
+
+-- what a mutation makes dirty; nothing where it is refused
+abbrev pub dirtied_by : Mutation → State → Pairs
+dirtied_by mutation s f x =
+    is_ok (change mutation s.page) && is_dirty (change_of mutation s.page.tree) (mutated mutation s) f x
+
+-- what the deletions of some nodes make dirty, one after another, each in the page just after it
+abbrev pub dirtied_without : List ℕ → State → Pairs
+dirtied_without [] s f x = false
+dirtied_without (n ∷ ns) s f x = dirtied_by (Delete n) s f x || dirtied_without ns (mutated (Delete n) s) f x
