@@ -104,6 +104,8 @@ DONE = [
     (page("--page", "deepest", "--brief", "L"), f"page {ADDRESS}\nactive 1\nstep 0 opened\nhidden 0\nend 0\n"),
     (page("--page", "most", "--brief", "empty"), f"page {ADDRESS}\nactive 0\nstep 0 opened\nhidden 0\nend 0\n"),
     (["lists", "half", "half"], "read 0 filters 0 exceptions 0 options\n"),
+    (["drill", "4"], "drill 4 nodes 18 steps 4 hidden 2 taken 1\n"),
+    (["drill", "--brief", "200"], "drill 200 hidden 173\n"),
 ]
 
 EXAMPLE = [

@@ -1,5 +1,5 @@
 -- The parts of a report, written one after the other.
-use Rattle.std.proofs.Common.{◌≡◌, ◌∙◌, ℕ, Bool, List, [], ◌∷◌, ◌++◌, ◌≤◌, Result, Ok, Err, length, arith, ap, subst, sym}
+use Rattle.std.proofs.Common.{◌≡◌, ◌∙◌, ℕ, Bool, List, [], ◌∷◌, ◌++◌, ◌≤◌, Result, Ok, Err, IfOk, length, arith, ap, subst, sym}
 use Rattle.std.proofs.lemmas.List.{length-drop}
 use Rattle.cos_source.specs.Mark.{mark_length, without_mark}
 use Rattle.cos_outside.specs.Writes.{WritesTexts}
@@ -17,3 +17,8 @@ no_fault e = cc
 
 pub unmarked_length : (bytes : List ℕ) → length (without_mark bytes) ≤ length bytes
 unmarked_length bytes = omega (arith, length-drop (mark_length bytes) bytes)
+
+-- what holds of an answer gives what follows from it
+pub if_ok_then : {T E : Type 0} {P Q : T → Type 0} (result : Result T E) → ((x : T) → P x → Q x) → IfOk result P → IfOk result Q
+if_ok_then (Ok x) then h = then x h
+if_ok_then (Err error) then h = tt

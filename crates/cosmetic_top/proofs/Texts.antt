@@ -17,11 +17,12 @@ use Rattle.engine_meaning.specs.States.{State}
 use Rattle.hide_report.specs.Texts.{counts_text, drill_text, head_text, notices_text}
 use Rattle.command_inputs.specs.declared.inputs.ApplyInputs.{ApplyInputs}
 use Rattle.command_inputs.specs.declared.inputs.Sources.{Sources}
+use Rattle.command_meaning.specs.Generator.{drill_list}
 use Rattle.command_meaning.specs.Numbers.{unnumbered_list}
 use Rattle.command_meaning.specs.Report.{apply_report, bad_suffix, drill_address, drill_report, lists_from, lists_report, lists_texts, opened_state, steps_texts}
 use Rattle.command_meaning.proofs.Reports.{apply_unnumbered, drill_unnumbered, lists_unnumbered}
 use Rattle.list_files.specs.declared.reading.SourcesRead.{SourcesRead}
-use Rattle.cosmetic_top.specs.Reports.{counts_of, drill_read, report_of, state_of}
+use Rattle.cosmetic_top.specs.Reports.{IsDrillState, counts_of, drilled, report_of, state_of}
 
 -- what is said of the rules of public suffixes
 abbrev pub bad_of : List ℕ → List Notice
@@ -42,7 +43,7 @@ pub same_count : (env : List (List ℕ)) (large : List Asked) (unread : List Wri
 same_count env large unread files lists e = sym (length-map lists unnumbered_list) ∙ ap length e ∙ count_read env large unread 1 files
 
 -- the active filters hang on the rest of the page's host alone
-same_active : (lists : List ListRead) (page : Page) (rules others : List Rule) → ((host : List ℕ) → rest rules host ≡ rest others host) →
+pub same_active : (lists : List ListRead) (page : Page) (rules others : List Rule) → ((host : List ℕ) → rest rules host ≡ rest others host) →
     active_among (entries_of lists) page rules ≡ active_among (entries_of lists) page others
 same_active lists page rules others e = ap (λ r. active_with (entries_of lists) page r) (e page.host)
 
@@ -70,10 +71,12 @@ module _ (env : List (List ℕ)) (large : List Asked) (unread : List Written) (s
       ∷ steps_texts brief (record { page = record { tree = inputs.tree; path = inputs.page.path }; filters = active_among (entries_of read.lists) inputs.page (rules_in from.suffixes) }) (without_mark inputs.script))) (sym e)
       ∙ sym (apply_unnumbered brief inputs read.lists) ∙ ap (λ all. apply_report brief inputs all) lists
 
-  pub drill_is : (number : ℕ) (brief : Bool) (tree : Tree) → sources.suffixes ≡ [] →
-      (let counts = counts_of number (drill_read tree read) in drill_text counts.number counts.nodes counts.steps counts.hidden counts.taken brief ∷ [])
-      ≡ drill_report number brief tree (lists_from env large unread 1 sources.lists)
-  drill_is number brief tree e =
-      ap (λ (s : State). let counts = counts_of number s in drill_text counts.number counts.nodes counts.steps counts.hidden counts.taken brief ∷ [])
-      (state_is drill_address tree ∙ ap (λ bytes. record { page = record { tree = tree; path = drill_address.path }; filters = active_among (entries_of read.lists) drill_address (rules_in bytes) }) e)
-      ∙ sym (drill_unnumbered number brief tree read.lists) ∙ ap (λ all. drill_report number brief tree all) lists
+
+-- the line of a drill, of the page with its active filters
+pub drill_is : (large : List Asked) (unread : List Written) (tree : Tree) (s : State) → IsDrillState large unread tree s → (number : ℕ) (brief : Bool) →
+    (let counts = counts_of number (drilled number s) in drill_text counts.number counts.nodes counts.steps counts.hidden counts.taken brief ∷ [])
+    ≡ drill_report number brief tree (lists_from [] large unread 1 (drill_list ∷ []))
+unfolding counts_of drilled
+drill_is large unread tree s h number brief =
+    ap (λ (from : State). let counts = counts_of number (drilled number from) in drill_text counts.number counts.nodes counts.steps counts.hidden counts.taken brief ∷ []) h.state
+    ∙ sym (drill_unnumbered number brief tree h.lists) ∙ ap (λ all. drill_report number brief tree all) h.read
