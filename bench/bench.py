@@ -20,8 +20,11 @@ It makes its own input in a temporary folder.
 - 200 filters of each operator on a nested page: what one test costs, by operator.
 - Lists and pages of bad input: each run has to end with status 0. Nested `:has()` with other tests
   beside it isn't among them yet: its cost grows with the depth of the page to the power of how many there are.
-- A script of changes has every element asked again after each line: its time should grow as the number of its lines does,
-  and its peak memory should not."""
+- A script of changes: its time should grow as the number of its lines does, and its peak memory should not; pairs of an insert
+  and a delete keep it flat.
+- 10,000 rules of public suffixes, and what finding the active filters of a page takes beside reading the lists.
+- What changes cost: on a list that nothing observes, with ten times the filters or the page, on a page of 800,000 nodes, and in
+  the worst cases."""
 
 import argparse
 import os
@@ -387,17 +390,60 @@ def scripts(program, folder, nodes):
     return compare("2,000 for 500 lines", *seconds)
 
 
+def suffixes(program, folder):
+    """Rules of public suffixes, and the active filters of a page, beside reading the lists."""
+    write(Path(folder, "rules"), (f"{WORDS[i % len(WORDS)]}{i}.com\n" for i in range(10_000)))
+    write(Path(folder, "page"), ["<p>"])
+    without, *_ = run(program, folder, report("none"))
+    seconds = measure(program, folder, "10,000 rules of public suffixes", report("none", "--suffixes", "rules"), "rules")
+    if seconds is None:
+        return False
+    print(f"{'':<38}{(seconds - without) * 1e3:>21,.1f} ms more than without")
+    write(Path(folder, "list"), (cosmetic_line(i) + "\n" for i in range(30_000)))
+    read = measure(program, folder, "30,000 cosmetic lines, read", ["lists", "list"], "list")
+    active = measure(program, folder, "  and their active filters, asked", report("list", "--brief"), "list")
+    return compare("  with the active filters", read, active)
+
+
+def changes(program, folder, name, lines, size=1_000):
+    """So many lines of a script over the page and the list that stand there, beside the same run without a script: what a line
+    costs."""
+    write(Path(folder, "script"), (line + "\n" for line in lines))
+    without, *_ = run(program, folder, report("list", "--brief"))
+    seconds = measure(program, folder, name, report("list", "--brief", "--script", "script"))
+    if seconds is None:
+        return None
+    each = (seconds - without) / size * 1e6
+    print(f"{'':<38}{each:>21,.1f} us a line")
+    return max(each, 0.1)
+
+
+def generic_list(count):
+    """Generic lines of classes and ids in the shape of a real list's, which have few sets of sensors between them."""
+    return (f"##.ad-{i}\n" if i % 3 else f"###ad_{i}\n" for i in range(count))
+
+
+def one_class(count, every=2):
+    """Lines that give elements of the flat page another class."""
+    return (f"attr {1 + every * (i * 7919 % 5_000)} class row c{i % 97}" for i in range(count))
+
+
 def engine(program, folder):
     """What changes cost, beside the same on other lists and pages. `--brief` prints numbers alone."""
     classes = [f"##.c{i}\n" for i in range(2_000)]
-    rows = [f'<div class="row c{i % 97}" id="r{i}">text</div>' for i in range(10_000)]
-    write(Path(folder, "page"), rows)
-    write(Path(folder, "list"), classes)
+    write(Path(folder, "page"), flat_page(20_000))
     write(Path(folder, "script"), (f"attr {2 * i + 1} title t{i}\n" for i in range(2_000)))
+    write(Path(folder, "list"), classes)
     brief = ("--brief", "--script", "script")
     seconds = [measure(program, folder, "2,000 lines that nothing observes", report("none", *brief))]
     seconds.append(measure(program, folder, "  with 2,000 class filters", report("list", *brief)))
-    ran = compare("  filters for none", *seconds)
+    ran = [compare("  filters for none", *seconds)]
+
+    write(Path(folder, "list"), generic_list(13_922))
+    read = [measure(program, folder, "13,922 generic lines, read", ["lists", "list"], "list")]
+    read.append(measure(program, folder, "the page, read", report("none", "--brief")))
+    first = measure(program, folder, "both, and the first report", report("list", "--brief"))
+    ran.append(all(read) and compare("  first report for reading", sum(read), first))
     for name, line in (
         ("1,000 classes", lambda i: f"attr {2 * i + 1} class row c{i}"),
         ("1,000 texts", lambda i: f"text {2 * i + 2} other"),
@@ -405,9 +451,42 @@ def engine(program, folder):
         ("1,000 moves", lambda i: f"move {2 * i + 1} {2 * i + 3} 0"),
         ("1,000 deletes", lambda i: f"delete {2 * i + 1}"),
     ):
-        write(Path(folder, "script"), (line(i) + "\n" for i in range(1_000)))
-        ran = measure(program, folder, f"{name}, 2,000 filters", report("list", *brief)) is not None and ran
-    ran = measure(program, folder, "drill 2000", ["drill", "2000"]) is not None and ran
+        ran.append(changes(program, folder, f"{name}, 13,922 filters", (line(i) for i in range(1_000))))
+
+    each = []
+    for count, nodes in ((1_392, 20_000), (13_922, 20_000), (13_922, 200_000)):
+        write(Path(folder, "list"), generic_list(count))
+        write(Path(folder, "page"), flat_page(nodes))
+        each.append(changes(program, folder, f"1,000 classes, {count:,} filters, {nodes:,}", one_class(1_000)))
+    ran += [compare("  ten times the filters", *each[:2]), compare("  ten times the page", *each[1:])]
+
+    write(Path(folder, "page"), flat_page(800_000))
+    ran.append(changes(program, folder, "1,000 classes, 800,000 nodes", one_class(1_000)))
+    write(Path(folder, "page"), flat_page(20_000))
+    pairs = (line for i in range(10_000) for line in ("insert 1 0 <b class=x></b>", f"delete {20_001 + i}"))
+    ran.append(changes(program, folder, "10,000 inserts and deletes in turn", pairs, 20_000))
+    ran.append(worst_cases(program, folder))
+    ran.append(measure(program, folder, "drill 2000", ["drill", "2000"]))
+    return all(ran)
+
+
+# The worst cases: a filter, and a page where one change makes much dirty.
+WORST = {
+    "`.a ~ .b`, 100,000 children": (".a ~ .b", lambda: ["<i></i>" * 100_000], lambda i: f"attr 1 class {'ab'[i % 2]}"),
+    "`:has()` on the root": ("b:has(.a)", lambda: ["<b>", "<i></i>" * 100_000, "</b>"], lambda i: f"attr {i + 2} class {'ab'[i % 2]}"),
+    "`:others()`": (".a:others()", lambda: ["<i></i>" * 10_000], lambda i: f"attr {i + 1} class {'ab'[i % 2]}"),
+    "`:has-text()` high up": ("b:has-text(zz)", lambda: ["<b>", "<i>t</i>" * 100_000, "</b>"], lambda i: f"text {2 * i + 3} u{i}"),
+    "`:nth-last-child()`": ("i:nth-last-child(3n)", lambda: ["<i></i>" * 10_000], lambda i: "insert 0 0 <i></i>"),
+}
+
+
+def worst_cases(program, folder):
+    """Ten changes each."""
+    ran = True
+    for name, (selector, page, line) in WORST.items():
+        write(Path(folder, "list"), [f"##{selector}\n"])
+        write(Path(folder, "page"), page())
+        ran = changes(program, folder, name, (line(i) for i in range(10)), 10) is not None and ran
     return ran
 
 
@@ -421,7 +500,7 @@ def main():
         ran = [pages(program, folder, "flat", flat_page), pages(program, folder, "nested", nested_page)]
         Path(folder, "none").write_text("")
         ran += [small_elements(program, folder), documents(program, folder), hostile(program, folder), selector_lists(program, folder, 30_000)]
-        ran.append(whole_lists(program, folder))
+        ran += [whole_lists(program, folder), suffixes(program, folder)]
         ran += [costs(program, folder), bad_input(program, folder)]
         Path(folder, "list").write_text(filters(10))
         write(Path(folder, "page"), flat_page(20_000))
