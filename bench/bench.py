@@ -18,8 +18,8 @@ It makes its own input in a temporary folder.
 - The class and id lines of a real list, where Debian's webext-ublock-origin-firefox is installed, else lines made in that shape,
   on a nested page: what one test costs.
 - 200 filters of each operator on a nested page: what one test costs, by operator.
-- Lists and pages of bad input: each run has to end with status 0. Nested `:has()` with other tests
-  beside it isn't among them yet: its cost grows with the depth of the page to the power of how many there are.
+- Lists and pages of bad input: each run has to end with status 0. `:is()` and `:not()` with `:has()` in one another aren't among
+  them yet: their cost grows with the depth of the page to the power of how many `:has()` there are.
 - A script of changes: its time should grow as the number of its lines does, and its peak memory should not; pairs of an insert
   and a delete keep it flat.
 - 10,000 rules of public suffixes, and what finding the active filters of a page takes beside reading the lists.
@@ -358,7 +358,7 @@ def costs(program, folder):
     for name, make in OPERATORS.items():
         lines = [f"##{make(i)}" for i in range(200)]
         ran = cost(program, folder, f"200 of `{name}`, 10,000 nodes", lines, elements) and ran
-    # All elements are gone through for each element that is asked, so these are few.
+    # Many elements are asked for each element, so these are few.
     lines = [f"##.c{i}:others()" for i in range(4)]
     return cost(program, folder, "4 of `:others()`, 10,000 nodes", lines, elements) and ran
 
@@ -374,6 +374,14 @@ def bad_input(program, folder):
     write(Path(folder, "list"), [f"##{name * 16}.b{')' * 16}\n" for name in (":is(", ":not(", ":has(> ", ":has(")])
     write(Path(folder, "page"), ["<b class=a>" * 510])
     ran.append(measure(program, folder, "16 levels on a page 510 deep", report("list")))
+    write(Path(folder, "list"), [f"##{'.a:has(' * 16}.b{')' * 16}\n", f"##.a:has(.a{' .a' * 14} .b)\n", f"##.b{' .a' * 26}\n"])
+    ran.append(measure(program, folder, "  with a class beside each level", report("list")))
+    write(Path(folder, "list"), [f"##b{'+b' * 32_700}:last-child\n"])
+    write(Path(folder, "page"), ["<i>", *["<b></b>"] * 33_000, "</i>"])
+    ran.append(measure(program, folder, "32,700 steps on 33,000 siblings", report("list")))
+    write(Path(folder, "list"), ["##.b ~ .a ~ .a\n"])
+    write(Path(folder, "page"), ["<b class=a></b>" * 5_000])
+    ran.append(measure(program, folder, "`a ~ b ~ b` on 5,000 siblings", report("list")))
     write(Path(folder, "list"), ["##b:nth-last-of-type(3n)\n"])
     write(Path(folder, "page"), ["<b></b><i></i>" * 10_000])
     ran.append(measure(program, folder, "20,000 siblings counted from the last", report("list")))
@@ -460,7 +468,7 @@ def engine(program, folder):
         each.append(changes(program, folder, f"1,000 classes, {count:,} filters, {nodes:,}", one_class(1_000)))
     ran += [compare("  ten times the filters", *each[:2]), compare("  ten times the page", *each[1:])]
 
-    write(Path(folder, "page"), flat_page(800_000))
+    write(Path(folder, "page"), ["<br class=row>" * 800_000])
     ran.append(changes(program, folder, "1,000 classes, 800,000 nodes", one_class(1_000)))
     write(Path(folder, "page"), flat_page(20_000))
     pairs = (line for i in range(10_000) for line in ("insert 1 0 <b class=x></b>", f"delete {20_001 + i}"))

@@ -1,5 +1,5 @@
--- A `:has()` that looks at what is below fails for all below an element for which it fails.
-use Rattle.std.proofs.Common.{◌≡◌, ◌==◌, ◌&&◌, ◌++◌, ℕ, Bool, append-nil, true, false, inl, inr, List, [], ◌∷◌, All, Option, Some, None, IfSome, IsSomeAnd, refl, sym, ap, ◌∙◌}
+-- Steps that look at what is below lead to nothing from all below an element from which they lead to nothing.
+use Rattle.std.proofs.Common.{◌≡◌, ◌==◌, ◌&&◌, ◌++◌, ◌⊎◌, ℕ, length, true, false, inl, inr, List, [], ◌∷◌, All, Option, Some, None, IfSome, IsSomeAnd, refl, sym, ap, ◌∙◌}
 use Rattle.std.specs.List.{list_any, list_all}
 use Rattle.std.proofs.lemmas.Bool.{eqb-true, or_cases, or_left, or_right, and_from, and_parts, both_ways, false_from_ne_true, true_from_ne_false}
 use Rattle.std.proofs.lemmas.List.Elements.{All-head, All-tail}
@@ -19,15 +19,14 @@ use Rattle.selector_tree.specs.declared.selector.Test.TheVariants as test
 use Rattle.selector_meaning.specs.Texts.{Bytes}
 use Rattle.selector_meaning.specs.Meaning.{holds, is_there}
 use Rattle.selector_match.specs.Asked.{IsElement}
-use Rattle.proper_filters.specs.Proper.{are_inner, is_inner_selector}
+use Rattle.proper_filters.specs.Proper.{is_inner, are_inner, is_inner_selector}
 use Rattle.procedural_ops.specs.Reaching.{leads_from, some_leads}
 use Rattle.procedural_ops.specs.Walks.{targets}
-use Rattle.procedural_ops.specs.Blocked.{Blocks, BeginsBelow, HasBelow, LooksBelow}
+use Rattle.procedural_ops.specs.Blocked.{Blocks, BeginsBelow, KeepsBelow, LooksBelow}
 use Rattle.procedural_ops.specs.Count.{asks, asks_at, is_plain_step, is_plain_step_at}
-use Rattle.procedural_ops.specs.Runs.{is_keep, is_keep_at, keeps, single_keeps}
-use Rattle.procedural_ops.proofs.Keeping.{leads_run, is_keep-Keep}
+use Rattle.procedural_ops.specs.Runs.{is_keep, keeps, single_keeps}
+use Rattle.procedural_ops.proofs.Keeping.{leads_run, keeps_is}
 use Rattle.procedural_ops.proofs.Simple.{plain_run}
-use Rattle.procedural_ops.proofs.Weights.{all-append}
 use Rattle.procedural_ops.proofs.Any.{any-found, any-made}
 use Rattle.procedural_ops.proofs.Duals.{is_in-targets}
 use Rattle.procedural_ops.proofs.Steps as steps
@@ -83,82 +82,59 @@ module _ (t : Tree) (tree : IsTree t) where
     unfolding some_leads
     down_selector l begins inner f w f_is w_is up h = down_some l begins inner f w f_is w_is up h
 
-    -- where such a `:has()` fails for f, it fails for all below it
-    one_blocked : (s : List Step) → are_inner patterns s ≡ true → (first : Step) × (s ≡ first ∷ []) × HasBelow first → (f : ℕ) → IsElement t f → leads_from t path s f ≡ false → Blocks t path s f
-    one_blocked s inner looks f f_is fails w w_is up =
-        let first = looks.0 in
-        let q = looks.2.0 in
-        let l = looks.2.2.0 in
-        let keeps : first ≡ step.Keep q = looks.2.1 in
-        let is_has : q ≡ test.Has l = looks.2.2.1 in
-        let parts = weights.inner_first patterns s [] first looks.1 inner in
-        let keep = weights.in_Keep patterns first q keeps parts.0 in
-        let has = weights.in_Has patterns q l l is_has refl keep.1 in
-        false_from_ne_true (leads_from t path s w) (λ h.
-        let holds_w : holds pattern_found t path q w ≡ true = true_from_ne_false (holds pattern_found t path q w)
-        (λ no. both_ways false refl (steps.leads_dropped t path tree patterns s [] first w looks.1 parts.1 w_is q keeps (holds pattern_found t path q w) refl no ∙ h)) in
-        let some_f = down_selector l looks.2.2.2 has.1 f w f_is w_is up (sym (steps.has_is t path q l w is_has) ∙ holds_w) in
-        let holds_f : holds pattern_found t path q f ≡ true = steps.has_is t path q l f is_has ∙ some_f in
-        let leads_f : true ≡ leads_from t path s f =
-        steps.leads_kept t path tree patterns s [] first f looks.1 parts.1 f_is q keeps true true (sym holds_f) refl (steps.leads_none t path [] f refl) in
-        both_ways false refl (sym fails ∙ sym leads_f))
-
-    off : (a : Bool) → (a && false) ≡ false
-    off true = refl
-    off false = refl
-
-    on : (a : Bool) → (a && true) ≡ a
-    on true = refl
-    on false = refl
-
-    asks_plain : (s : Step) → asks s ≡ true → (is_plain_step s ≡ true) × (is_keep s ≡ true)
+    asks_plain : (s : Step) → asks s ≡ true → is_plain_step s ≡ true
     asks_plain s h = by (out-Step s) h
       where
-        by : (o : Step-F Step Test) → asks_at o ≡ true → (is_plain_step_at o ≡ true) × (is_keep_at o ≡ true)
-        by (Step-F.Keep q) e = (e, refl)
+        by : (o : Step-F Step Test) → asks_at o ≡ true → is_plain_step_at o ≡ true
+        by (Step-F.Keep q) e = e
         by (Step-F.Move place) e = absurd (both_ways false refl e)
         by (Step-F.Upward n) e = absurd (both_ways false refl e)
         by (Step-F.UpwardTo l) e = absurd (both_ways false refl e)
         by Step-F.Others e = absurd (both_ways false refl e)
 
-    all_plain : (front : List Step) → list_all asks front ≡ true → (list_all is_plain_step front ≡ true) × (list_all is_keep front ≡ true)
-    all_plain [] h = (refl, refl)
-    all_plain (s ∷ front) h =
-        let p = and_parts (asks s) (list_all asks front) h in
-        let one = asks_plain s p.0 in
-        let more = all_plain front p.1 in
-        (and_from (is_plain_step s) (list_all is_plain_step front) one.0 more.0, and_from (is_keep s) (list_all is_keep front) one.1 more.1)
+    -- a step of the run that keeps w keeps f
+    keep_up : (s : Step) → KeepsBelow s → is_inner patterns s ≡ true → (f w : ℕ) → IsElement t f → IsElement t w → is_in (above t w) f ≡ true
+        → single_keeps t path f s ≡ true → keeps t path w s ≡ true → keeps t path f s ≡ true
+    keep_up s (inl plain) inner f w f_is w_is up single h =
+        let one : list_all is_plain_step (s ∷ []) ≡ true = and_from (is_plain_step s) true (asks_plain s plain) refl in
+        (and_parts (keeps t path f s) true (sym (plain_run t path f (s ∷ []) one) ∙ and_from (single_keeps t path f s) true single refl)).0
+    keep_up s (inr below) inner f w f_is w_is up single h =
+        let q = below.0 in
+        let l = below.2.0 in
+        let keep : s ≡ step.Keep q = below.1 in
+        let has : q ≡ test.Has l = below.2.1 in
+        let nested = weights.in_Has patterns q l l has refl (weights.in_Keep patterns s q keep inner).1 in
+        sym (keeps_is t path f s q keep) ∙ steps.has_is t path q l f has
+        ∙ down_selector l below.2.2 nested.1 f w f_is w_is up (sym (steps.has_is t path q l w has) ∙ keeps_is t path w s q keep ∙ h)
 
-    -- steps that keep lead on where they all hold
-    leads_kept_all : (s : List Step) → list_all is_keep s ≡ true → are_inner patterns s ≡ true → (x : ℕ) → IsElement t x → leads_from t path s x ≡ list_all (keeps t path x) s
-    leads_kept_all s kept inner x x_is =
-        ap (λ (l : List Step). leads_from t path l x) (sym (append-nil s))
-        ∙ leads_run t path tree patterns s [] x kept (ap (are_inner patterns) (append-nil s) ∙ inner) x_is
-        ∙ ap (λ b. list_all (keeps t path x) s && b) (sym (steps.leads_none t path [] x refl)) ∙ on (list_all (keeps t path x) s)
+    keeps_up : (run : List Step) → All KeepsBelow run → are_inner patterns run ≡ true → (f w : ℕ) → IsElement t f → IsElement t w → is_in (above t w) f ≡ true
+        → list_all (single_keeps t path f) run ≡ true → list_all (keeps t path w) run ≡ true → list_all (keeps t path f) run ≡ true
+    keeps_up [] below inner f w f_is w_is up singles h = refl
+    keeps_up (s ∷ run) below inner f w f_is w_is up singles h =
+        let i = weights.inner_first patterns (s ∷ run) run s refl inner in
+        let p = and_parts (single_keeps t path f s) (list_all (single_keeps t path f) run) singles in
+        let k = and_parts (keeps t path w s) (list_all (keeps t path w) run) h in
+        and_from (keeps t path f s) (list_all (keeps t path f) run) (keep_up s (All-head KeepsBelow s run below) i.0 f w f_is w_is up p.0 k.0)
+        (keeps_up run (All-tail KeepsBelow s run below) i.1 f w f_is w_is up p.1 k.1)
 
-    -- where the tests before it hold for f, and it fails for f, the steps lead to nothing from what is below
-    pub blocked : (s : List Step) → are_inner patterns s ≡ true → LooksBelow s → (f : ℕ) → IsElement t f → list_all (single_keeps t path f) s ≡ true → leads_from t path s f ≡ false → Blocks t path s f
-    blocked s inner looks f f_is holds_f fails w w_is up =
-        let front = looks.0 in
-        let last = looks.1 in
-        let is : s ≡ front ++ last ∷ [] = looks.2 in
-        let plain = all_plain front looks.3 in
-        let q = looks.4.0 in
-        let last_keeps : is_keep last ≡ true = is_keep-Keep last q looks.4.1 in
-        let kept : list_all is_keep s ≡ true =
-        ap (list_all is_keep) is ∙ all-append is_keep front (last ∷ []) ∙ and_from (list_all is_keep front) (is_keep last && true) plain.1 (and_from (is_keep last) true last_keeps refl) in
-        let split : (x : ℕ) → IsElement t x → leads_from t path s x ≡ (list_all (keeps t path x) front && keeps t path x last) =
-        λ x x_is. leads_kept_all s kept inner x x_is ∙ ap (list_all (keeps t path x)) is ∙ all-append (keeps t path x) front (last ∷ []) ∙ ap (λ b. list_all (keeps t path x) front && b) (on (keeps t path x last)) in
-        let front_f : list_all (keeps t path f) front ≡ true =
-        sym (plain_run t path f front plain.0) ∙ (and_parts (list_all (single_keeps t path f) front) (list_all (single_keeps t path f) (last ∷ []))
-        (sym (ap (list_all (single_keeps t path f)) is ∙ all-append (single_keeps t path f) front (last ∷ [])) ∙ holds_f)).0 in
-        let last_f : keeps t path f last ≡ false = sym (ap (λ b. b && keeps t path f last) front_f) ∙ sym (split f f_is) ∙ fails in
-        let inner_last : are_inner patterns (last ∷ []) ≡ true =
-        (and_parts (are_inner patterns front) (are_inner patterns (last ∷ [])) (sym (weights.inner-append patterns front (last ∷ [])) ∙ sym (ap (are_inner patterns) is) ∙ inner)).1 in
-        let one : (x : ℕ) → IsElement t x → leads_from t path (last ∷ []) x ≡ keeps t path x last =
-        λ x x_is. leads_kept_all (last ∷ []) (and_from (is_keep last) true last_keeps refl) inner_last x x_is ∙ on (keeps t path x last) in
-        let at_w = one_blocked (last ∷ []) inner_last (last, refl, looks.4) f f_is (one f f_is ∙ last_f) w w_is up in
-        split w w_is ∙ ap (λ b. list_all (keeps t path w) front && b) (sym (one w w_is) ∙ at_w) ∙ off (list_all (keeps t path w) front)
+    rest_up : (rest : List Step) → (rest ≡ []) ⊎ BeginsBelow rest → are_inner patterns rest ≡ true → (f w : ℕ) → IsElement t f → IsElement t w → is_in (above t w) f ≡ true
+        → leads_from t path rest w ≡ true → leads_from t path rest f ≡ true
+    rest_up rest (inl none) inner f w f_is w_is up h = sym (steps.leads_none t path rest f (ap (λ (l : List Step). length l) none))
+    rest_up rest (inr begins) inner f w f_is w_is up h = down_chain rest begins inner f w f_is w_is up h
+
+    -- where the tests of the run hold for f, and the steps lead to nothing from it, they lead to nothing from what is below
+    pub blocked : (s run rest : List Step) → s ≡ run ++ rest → are_inner patterns s ≡ true → list_all is_keep run ≡ true → LooksBelow run rest → (f : ℕ) → IsElement t f
+        → list_all (single_keeps t path f) run ≡ true → leads_from t path s f ≡ false → Blocks t path s f
+    blocked s run rest is inner kept looks f f_is singles fails w w_is up =
+        let whole : are_inner patterns (run ++ rest) ≡ true = sym (ap (are_inner patterns) is) ∙ inner in
+        let i = and_parts (are_inner patterns run) (are_inner patterns rest) (sym (weights.inner-append patterns run rest) ∙ whole) in
+        let split : (x : ℕ) → IsElement t x → leads_from t path s x ≡ (list_all (keeps t path x) run && leads_from t path rest x) =
+        λ x x_is. ap (λ (l : List Step). leads_from t path l x) is ∙ leads_run t path tree patterns run rest x kept whole x_is in
+        false_from_ne_true (leads_from t path s w) (λ h.
+        let p = and_parts (list_all (keeps t path w) run) (leads_from t path rest w) (sym (split w w_is) ∙ h) in
+        let run_f = keeps_up run looks.0 i.0 f w f_is w_is up singles p.0 in
+        let rest_f = rest_up rest looks.1 i.1 f w f_is w_is up p.1 in
+        both_ways false refl (sym fails ∙ split f f_is ∙ and_from (list_all (keeps t path f) run) (leads_from t path rest f) run_f rest_f))
 
   -- below an element that blocks, steps lead to nothing
   pub under : (path : Bytes) (s : List Step) (z : ℕ) → IsElement t z → (o : Option ℕ) → IfSome o (Blocks t path s) → IsSomeAnd o (λ f. is_in (above t z) f ≡ true)

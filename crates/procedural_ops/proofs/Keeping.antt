@@ -200,7 +200,7 @@ pub is_keep-Keep : (s : Step) (q : Test) → s ≡ step.Keep q → is_keep s ≡
 is_keep-Keep s q e = ap is_keep e ∙ ap is_keep_at (step.outs-Keep q)
 
 module _ (t : Tree) (path : Bytes) where
-  keeps_is : (x : ℕ) (s : Step) (q : Test) → s ≡ step.Keep q → holds pattern_found t path q x ≡ keeps t path x s
+  pub keeps_is : (x : ℕ) (s : Step) (q : Test) → s ≡ step.Keep q → holds pattern_found t path q x ≡ keeps t path x s
   keeps_is x s q e = sym (ap (keeps t path x) e ∙ ap (keeps_at t path x) (step.outs-Keep q))
 
   joined : (a b c : Bool) → ((a && b) && c) ≡ (a && (b && c))

@@ -44,32 +44,6 @@ all_behind t tree =
 pub at_document : (t : Tree) → is_in (order t) 0 ≡ true
 at_document t = refl
 
--- what Others finds out of all elements
-module _ (t : Tree) (path : Bytes) (before : List Step) (x : ℕ) where
-  abbrev Hits : ℕ → Bool
-  Hits y = is_in (reached t path before) y && not (is_apart t y x)
-
-  abbrev Beside : ℕ → Bool
-  Beside y = is_in (reached t path before) y && is_beside t y x
-
-  pub others_hit : (rest : List ℕ) (y : ℕ) → list_any Hits (all t) ≡ list_any Hits (y ∷ rest) → Hits y ≡ true → false ≡ is_other t (reached t path before) x
-  others_hit rest y e h =
-      sym (others_by t path before x ∙ ap (λ b. not b && list_any Beside (all t) && is_shown t x) (e ∙ or_left (Hits y) (list_any Hits rest) h))
-
-  pub others_none : is_shown t x ≡ false → false ≡ is_other t (reached t path before) x
-  others_none h =
-      sym (others_by t path before x ∙ ap (λ b. not (list_any Hits (all t)) && list_any Beside (all t) && b) h
-      ∙ bool.and-false (not (list_any Hits (all t)) && list_any Beside (all t)))
-
-  pub others_near : (near : Bool) → list_any Hits (all t) ≡ false → list_any Beside (all t) ≡ (near || false) → is_shown t x ≡ true → near ≡ is_other t (reached t path before) x
-  others_near near h b s =
-      sym (others_by t path before x ∙ ap (λ a. not a && list_any Beside (all t) && is_shown t x) h
-      ∙ ap (λ c. c && is_shown t x) (b ∙ or_off near) ∙ ap (λ c. near && c) s ∙ bool.and-true near)
-    where
-      or_off : (a : Bool) → (a || false) ≡ a
-      or_off true = refl
-      or_off false = refl
-
 -- what holds of a value that is there
 pub some_of : (P : ℕ → Type 0) (o : Option ℕ) (m : ℕ) → IfSome o P → o ≡ Some m → P m
 some_of P None m h e = absurd (let no : None ≡ Some m = e in cc)

@@ -1,6 +1,5 @@
 -- Where steps lead to nothing from an element, and so to nothing from what is below it.
-use Rattle.std.specs.Prelude.{◌≡◌, ℕ, true, false, List, [], ◌∷◌, ◌++◌, All}
-use Rattle.std.specs.List.{list_all}
+use Rattle.std.specs.Prelude.{◌≡◌, ◌⊎◌, ℕ, true, false, List, [], ◌∷◌, All}
 use Rattle.page_tree.specs.Forest.{Tree}
 use Rattle.page_tree.specs.Standings.{above}
 use Rattle.page_tree.specs.Directions.{is_in}
@@ -30,6 +29,10 @@ TestBelow q = (l : List (List Step)) × (q ≡ test.Has l) × All BeginsBelow l
 abbrev pub HasBelow : Step → Type 0
 HasBelow s = (q : Test) × (s ≡ step.Keep q) × TestBelow q
 
--- the steps are that one step, behind tests without selectors in them
-abbrev pub LooksBelow : List Step → Type 0
-LooksBelow steps = (front : List Step) × (s : Step) × (steps ≡ front ++ s ∷ []) × (list_all asks front ≡ true) × HasBelow s
+-- a step that keeps by such a `:has()`, or by a test without selectors in it
+abbrev pub KeepsBelow : Step → Type 0
+KeepsBelow s = (asks s ≡ true) ⊎ HasBelow s
+
+-- a run of such steps, and then nothing, or steps that go down first
+abbrev pub LooksBelow : List Step → List Step → Type 0
+LooksBelow run rest = All KeepsBelow run × ((rest ≡ []) ⊎ BeginsBelow rest)

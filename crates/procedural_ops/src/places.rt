@@ -1,9 +1,8 @@
 //! Steps that go up, and where elements stand to one another.
 ghost use Rattle.std.specs.Prelude.{◌≡◌, ◌≤◌, ◌||◌, ◌&&◌, true, length, All, IfSome, IsSomeAnd};
-ghost use Rattle.std.specs.List.{list_all};
 ghost use Rattle.procedural_ops.specs.Count.{asks};
 ghost use Rattle.page_tree.specs.Directions.{is_in};
-ghost use Rattle.procedural_ops.specs.Blocked.{BeginsBelow, TestBelow, HasBelow, LooksBelow};
+ghost use Rattle.procedural_ops.specs.Blocked.{BeginsBelow, TestBelow, HasBelow, KeepsBelow, LooksBelow};
 ghost use Rattle.page_tree.specs.Standings.{above};
 ghost use Rattle.selector_meaning.specs.Meaning.{ancestor, is_apart, is_beside, is_shown};
 ghost use Rattle.selector_match.specs.Asked.{IsElement};
@@ -120,26 +119,36 @@ pub(crate) fn is_under(dom: &Dom, top: Option<u32>, z: u32) -> bool
     }
 }
 
-/// Whether steps are tests without selectors in them and then one `:has()` whose chains go down first, to whatever is below.
-/// Where those tests hold for an element and the `:has()` fails, it fails for all below that.
-pub(crate) fn looks_below(steps: &[Step]) -> bool
-    ensures { result ≡ true → LooksBelow steps.now }
+/// Whether each step of a run keeps by a test without selectors in it, or by a `:has()` whose chains go down first, to whatever
+/// is below, and what stands behind the run goes down first too. Where those tests hold for an element and the steps lead to
+/// nothing from it, they lead to nothing from all that is below it.
+pub(crate) fn looks_below(run: &[Step], rest: &[Step]) -> bool
+    ensures { result ≡ true → LooksBelow run.now rest.now }
 {
-    match steps.split_last() {
-        Some((last, front)) => all_ask(front) && is_has_below(last),
-        None => false,
+    if !all_keep_below(run) {
+        return false;
     }
+    rest.is_empty() || begins_below(rest)
 }
 
-fn all_ask(steps: &[Step]) -> bool
-    ensures { result ≡ list_all asks steps.now }
+fn all_keep_below(run: &[Step]) -> bool
+    ensures { result ≡ true → All KeepsBelow run.now }
 {
-    for step in steps {
-        if !asks(step) {
+    for step in run {
+        if !keeps_below(step) {
             return false;
         }
     }
     true
+}
+
+fn keeps_below(step: &Step) -> bool
+    ensures { result ≡ true → KeepsBelow step.now }
+{
+    if asks(step) {
+        return true;
+    }
+    is_has_below(step)
 }
 
 fn asks(step: &Step) -> bool

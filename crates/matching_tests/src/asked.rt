@@ -1,0 +1,74 @@
+// Whether a filter selects an element.
+ghost use Rattle.std.specs.Prelude.{◌≡◌, ◌<◌, true, length, IfOk};
+ghost use Rattle.proper_filters.specs.Proper.{is_proper};
+ghost use Rattle.procedural_ops.specs.Told.{selector_at};
+
+use cos_outside::Steps;
+use cos_patterns::{CrateMaker, PatternTable};
+use dom_arena::Dom;
+use listed::Text;
+use procedural_ops::test;
+use selector_match::is_element;
+use selector_parser::{Read, read_selector};
+use selector_tree::{Action, Active, Filter};
+use std::alloc::Global;
+use std::sync::ledger::{Blank, Ledger};
+use std::test::Fail;
+
+// A filter alone, and the table with its patterns.
+fn filter(alloc: Global, text: &str) -> Result<(PatternTable, Active), Fail>
+    ensures one { IfOk result (λ made. length made.1 ≡ 1) }
+    ensures proper { IfOk result (λ made. is_proper made.0.patterns (selector_at made.1 0) ≡ true) }
+{
+    let mut maker = CrateMaker::new(alloc);
+    let mut table = PatternTable::new(alloc);
+    let Read::Filter(selector, _) = read_selector(alloc, text, &mut table, &mut maker)? else {
+        return Err(Fail::from("no filter"));
+    };
+    let canonical = Text::new(alloc);
+    let mut active = Active::new(alloc);
+    active.push(Filter {
+        list: 1,
+        line: 1,
+        selector,
+        action: Action::Hide,
+        canonical,
+    })?;
+    Ok((table, active))
+}
+
+/// Whether the filter of a text selects the element of a number. The blanks stand for the ledgers of what is counted.
+pub(crate) fn is_selected<L: Ledger, P: Ledger>(
+    alloc: Global,
+    dom: &Dom,
+    text: &Text,
+    x: u32,
+    checks: Blank,
+    parts: Blank,
+) -> Result<bool, Fail>
+    requires checks_name { checks.name ≡ L.name }
+    requires checks_parts { checks.parts ≡ L.parts }
+    requires checks_some { 0 < checks.parts }
+    requires parts_name { parts.name ≡ P.name }
+    requires parts_parts { parts.parts ≡ P.parts }
+    requires parts_some { 0 < parts.parts }
+{
+    let mut checks = Steps::<L>::new(checks);
+    let mut parts = Steps::<P>::new(parts);
+    if !is_element(dom, x) {
+        return Err(Fail::from("no element"));
+    }
+    let (table, active) = filter(alloc, text.as_str())?;
+    let verdict = test(
+        alloc,
+        dom,
+        "/",
+        &table,
+        &active,
+        0,
+        x,
+        &mut checks,
+        &mut parts,
+    )?;
+    Ok(verdict.yes() && verdict.element() == x && verdict.filter() == 0)
+}
