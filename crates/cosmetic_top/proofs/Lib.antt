@@ -2,3 +2,4 @@ pub mod Drilled
 pub mod Ends
 pub mod Parts
 pub mod Texts
+mod Spending

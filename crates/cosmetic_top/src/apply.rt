@@ -1,5 +1,5 @@
 // The command that reports a page.
-ghost use Rattle.std.specs.Prelude.{◌≡◌, ◌+◌, ◌≤◌, ◌<◌, ◌^◌, ◌∷◌, [], All, length, IsErrOf};
+ghost use Rattle.std.specs.Prelude.{◌≡◌, ◌+◌, ◌≤◌, ◌<◌, ◌^◌, ◌∷◌, [], All, length, IsErrOf, IsTrue};
 ghost use Rattle.cos_patterns.specs.declared.written.Asked.TheVariants.{Address};
 ghost use Rattle.list_reader.specs.Entries.{IsProperEntry};
 ghost use Rattle.hostname_buckets.specs.Active.{entries_of};
@@ -8,7 +8,10 @@ ghost use Rattle.command_words.specs.declared.command.Command.TheVariants.{Apply
 ghost use Rattle.command_inputs.specs.declared.status.Status.TheVariants.{Refused};
 ghost use Rattle.command_inputs.specs.declared.status.InputRefusal.TheVariants.{AddressTooLarge};
 ghost use Rattle.command_meaning.specs.Output.{texts_due};
-ghost use Rattle.cosmetic_top.specs.Reports.{report_of};
+ghost use Rattle.cos_source.specs.Mark.{without_mark};
+ghost use Rattle.remove_rounds.specs.Costs.{questions, single_tests};
+ghost use Rattle.cosmetic_top.specs.Costs.{command_cost, page_cost};
+ghost use Rattle.cosmetic_top.specs.Reports.{report_of, state_of};
 ghost use Rattle.cosmetic_top.specs.Runs.{RunsAs};
 
 use crate::end::status_of;
@@ -43,6 +46,10 @@ pub(crate) fn apply<S: Shelf, O: Sink, M: Maker, L: Ledger, P: Ledger>(
         (M.large maker.new) (M.unread maker.new) (texts_due (ApplyCommand words.now)) result }
     ensures too_large { IsErrOf result (Refused AddressTooLarge) →
         M.large maker.new ≡ Address words.now.url ∷ [] }
+    ensures checks { IsTrue (S.tells shelf.old) → checks.new ≤ checks.old
+        + command_cost questions (ApplyCommand words.now) (S.files shelf.old) (M.large maker.new) (M.unread maker.new) }
+    ensures parts { IsTrue (S.tells shelf.old) → parts.new ≤ parts.old
+        + command_cost single_tests (ApplyCommand words.now) (S.files shelf.old) (M.large maker.new) (M.unread maker.new) }
 {
     let inputs = read_apply(alloc, words, shelf, maker)?;
     let read = read_sources(alloc, &words.env, &inputs.sources, maker)?;
@@ -67,7 +74,11 @@ fn write_report<O: Sink, L: Ledger, P: Ledger>(
     requires few { length read.lists ≤ 32 }
     requires script { length inputs.script < 2 ^ 32 }
     requires numbers { inputs.tree.next + length inputs.script ≤ 4294967295 }
-    ensures { ReportsAll O.tells O.written O.faults out.old out.new (report_of brief inputs read) result }
+    ensures texts { ReportsAll O.tells O.written O.faults out.old out.new (report_of brief inputs read) result }
+    ensures checks { checks.new ≤ checks.old
+        + page_cost questions (state_of inputs.page inputs.tree read) (without_mark inputs.script) }
+    ensures parts { parts.new ≤ parts.old
+        + page_cost single_tests (state_of inputs.page inputs.tree read) (without_mark inputs.script) }
 {
     write_all_notices(alloc, out, &read)?;
     let ApplyInputs {

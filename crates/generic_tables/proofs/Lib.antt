@@ -3,3 +3,4 @@ pub mod Carrying
 pub mod Written
 pub mod WordCuts
 pub mod Entering
+pub mod Unnumbered

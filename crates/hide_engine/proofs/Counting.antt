@@ -17,27 +17,27 @@ use Rattle.hide_engine.specs.Ready.{state_of, pended, IsGiven}
 use Rattle.hide_engine.proofs.Following.{past}
 
 -- ---- a budget hangs on the pairs with a key alone
-module _ (n : ℕ) (carries pending others : Pairs) (same : (f x : ℕ) → (pending f x && carries f x) ≡ (others f x && carries f x)) where
-  same_due : (x : ℕ) → due_at n carries pending x ≡ due_at n carries others x
+module _ (n : ℕ) (carries bears pending others : Pairs) (same : (f x : ℕ) → (pending f x && carries f x) ≡ (others f x && bears f x)) where
+  same_due : (x : ℕ) → due_at n carries pending x ≡ due_at n bears others x
   same_due x = counts (range_with_len 0 n)
     where
-      counts : (fs : List ℕ) → count_by (λ f. pending f x && carries f x) fs ≡ count_by (λ f. others f x && carries f x) fs
+      counts : (fs : List ℕ) → count_by (λ f. pending f x && carries f x) fs ≡ count_by (λ f. others f x && bears f x) fs
       counts [] = refl
       counts (f ∷ fs) =
           sum_by-cons (λ f. cond (pending f x && carries f x) 1 0) f fs
           ∙ ap₂ (λ b k. cond {A = ℕ} b 1 0 + k) (same f x) (counts fs)
-          ∙ sym (sum_by-cons (λ f. cond (others f x && carries f x) 1 0) f fs)
+          ∙ sym (sum_by-cons (λ f. cond (others f x && bears f x) 1 0) f fs)
 
-  same_budget : (elements : List ℕ) → budget n elements carries pending ≡ budget n elements carries others
+  pub same_budget : (elements : List ℕ) → budget n elements carries pending ≡ budget n elements bears others
   same_budget [] = refl
   same_budget (x ∷ xs) =
       sum_by-cons (due_at n carries pending) x xs ∙ ap₂ (λ a b. a + b) (same_due x) (same_budget xs)
-      ∙ sym (sum_by-cons (due_at n carries others) x xs)
+      ∙ sym (sum_by-cons (due_at n bears others) x xs)
 
 given_budget : (page : PageState) (filters : FilterSet) (pending : Noted) (given : Pairs) → IsGiven filters pending given →
     budget_of (state_of page filters) (pended filters pending) ≡ budget_of (state_of page filters) given
 given_budget page filters pending given h =
-    same_budget (length filters.active) (carried (state_of page filters)) (pended filters pending) given same (all page.tree)
+    same_budget (length filters.active) (carried (state_of page filters)) (carried (state_of page filters)) (pended filters pending) given same (all page.tree)
   where
     no_key : (f x : ℕ) → selector_at filters.active f ≡ [] → carried (state_of page filters) f x ≡ false
     no_key f x e = ap (λ (l : List (List Step)). is_keyed page.tree l x) e

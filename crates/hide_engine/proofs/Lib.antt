@@ -7,8 +7,9 @@ mod Filing
 mod Changed
 mod Mutations
 mod Following
-mod Counting
+pub mod Counting
 mod Grouping
 mod Children
 mod NotedGroups
 mod Deleting
+pub mod Unseen

@@ -1,10 +1,12 @@
--- How many questions an event may take: so many pairs of a filter and an element that carries a key of it.
-use Rattle.std.specs.Prelude.{ℕ, true, length, map}
+-- How many questions an event may take: so many pairs of a filter and an element that carries a key of it. And how many
+-- single tests: each question at most the price of one, with the filters on the page behind the event.
+use Rattle.std.specs.Prelude.{ℕ, ◌*◌, true, length, map}
 use Rattle.cos_patterns.specs.Found.{pattern_found}
 use Rattle.page_tree.specs.Standings.{all}
 use Rattle.mutation_script.specs.declared.mutation.Mutation.{Mutation}
 use Rattle.procedural_ops.specs.Told.{selector_at}
 use Rattle.generic_tables.specs.Keys.{is_keyed}
+use Rattle.retest.specs.Priced.{price}
 use Rattle.retest_laws.specs.Pending.{Pairs, budget}
 use Rattle.engine_meaning.specs.States.{State, mutated, rounded, round_of}
 use Rattle.hide_engine.specs.Changes.{dirtied_by, dirtied_without}
@@ -29,3 +31,14 @@ event_budget mutation s = budget_of (mutated mutation s) (dirtied_by mutation s)
 abbrev pub round_budget : State → ℕ
 round_budget s =
     budget_of (rounded pattern_found s) (dirtied_without (map (λ row. row.node) (round_of pattern_found s)) s)
+
+-- ---- the single tests
+
+abbrev pub start_tests : State → ℕ
+start_tests s = start_budget s * price s.filters s.page.tree
+
+abbrev pub event_tests : Mutation → State → ℕ
+event_tests mutation s = event_budget mutation s * price s.filters (mutated mutation s).page.tree
+
+abbrev pub round_tests : State → ℕ
+round_tests s = round_budget s * price s.filters (rounded pattern_found s).page.tree

@@ -1,7 +1,9 @@
 -- The change that a mutation is where it isn't refused, and what it makes dirty.
-use Rattle.std.specs.Prelude.{ℕ, false, ◌&&◌, ◌||◌, List, [], ◌∷◌, is_ok}
+use Rattle.std.specs.Prelude.{◌≡◌, ℕ, true, false, ◌&&◌, ◌||◌, List, [], ◌∷◌, is_ok}
+use Rattle.std.specs.List.{list_any}
 use Rattle.std.specs.Str.{str_to_ascii_lowercase}
 use Rattle.page_tree.specs.Forest.{Tree, tops}
+use Rattle.page_tree.specs.Standings.{all}
 use Rattle.page_tree.specs.Directions.{is_in}
 use Rattle.page_tree.specs.Fragments.{fragment_nodes}
 use Rattle.html_meaning.specs.Page.{fragment}
@@ -11,8 +13,8 @@ use Rattle.mutation_script.specs.Changes.{change}
 use Rattle.procedural_ops.specs.Told.{selector_at}
 use Rattle.sensor_meaning.specs.declared.change.Change.{Change}
 use Rattle.sensor_meaning.specs.declared.change.Change.TheVariants.{Attr as AttrOf, Chars, Came, Went, Moved, Path as PathOf}
-use Rattle.sensor_meaning.specs.Changes.{parent_of}
-use Rattle.sensor_meaning.specs.Dirty.{dirty}
+use Rattle.sensor_meaning.specs.Changes.{observes, parent_of}
+use Rattle.sensor_meaning.specs.Dirty.{brought, dirty}
 use Rattle.sensor_meaning.specs.Sensors.{sensors}
 use Rattle.retest_laws.specs.Pending.{Pairs}
 use Rattle.engine_meaning.specs.States.{State, mutated}
@@ -40,3 +42,8 @@ dirtied_by mutation s f x =
 abbrev pub dirtied_without : List ℕ → State → Pairs
 dirtied_without [] s f x = false
 dirtied_without (n ∷ ns) s f x = dirtied_by (Delete n) s f x || dirtied_without ns (mutated (Delete n) s) f x
+
+-- no filter has a sensor that observes a change, which brings and moves no element; `s` is the page just after it
+pub record IsUnseen (change : Change) (s : State) : Type 0 where
+  pub unobserved : (f : ℕ) → list_any (λ sensor. observes sensor.observes change) (sensors (selector_at s.filters f)) ≡ false
+  pub brings_none : (x : ℕ) → is_in (all s.page.tree) x ≡ true → brought change s.page.tree x ≡ false

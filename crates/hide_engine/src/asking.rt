@@ -3,6 +3,7 @@ ghost use Rattle.std.specs.Prelude.{◌≡◌, ◌+◌, ◌≤◌, IfOk, OnOk};
 ghost use Rattle.hide_engine.specs.Budgets.{budget_of, start_budget};
 ghost use Rattle.hide_engine.specs.Exact.{AreExact};
 ghost use Rattle.hide_engine.specs.Ready.{state_of, pended, AreReady, IsRight};
+ghost use Rattle.retest.specs.Priced.{price, IsPriced};
 
 use crate::filter_set::FilterSet;
 use cos_outside::Steps;
@@ -27,6 +28,7 @@ pub(crate) fn ask_again<L: Ledger, P: Ledger>(
     requires right { IsRight page.now filters.now marks.old pending.now }
     ensures exact { OnOk result (AreExact (state_of page.now filters.now) marks.new) }
     ensures checks { checks.new ≤ checks.old + budget_of (state_of page.now filters.now) (pended filters.now pending.now) }
+    ensures parts { IsPriced (price filters.now.active page.now.tree) checks.old checks.new parts.old parts.new }
 {
     let asking = Asking {
         dom: &page.tree,
@@ -50,6 +52,7 @@ pub(crate) fn ask_everything<L: Ledger, P: Ledger>(
     requires { AreReady filters.now }
     ensures exact { IfOk result (λ marks. AreExact (state_of page.now filters.now) marks) }
     ensures checks { checks.new ≤ checks.old + start_budget (state_of page.now filters.now) }
+    ensures parts { IsPriced (price filters.now.active page.now.tree) checks.old checks.new parts.old parts.new }
 {
     let asking = Asking {
         dom: &page.tree,

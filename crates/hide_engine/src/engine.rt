@@ -1,6 +1,7 @@
 ghost use Rattle.std.specs.Prelude.{◌≡◌, ◌+◌, ◌≤◌, [], map, IfOk, IsErr};
 ghost use Rattle.cos_patterns.specs.Found.{pattern_found};
-ghost use Rattle.hide_engine.specs.Budgets.{start_budget, event_budget, round_budget};
+ghost use Rattle.hide_engine.specs.Budgets.{start_budget, start_tests, event_budget, event_tests, round_budget, round_tests};
+ghost use Rattle.hide_engine.specs.Changes.{change_of, IsUnseen};
 ghost use Rattle.engine_meaning.specs.Filters.{AreAskable};
 ghost use Rattle.engine_meaning.specs.Hidden.{pair_of};
 ghost use Rattle.engine_meaning.specs.States.{mutated, hidden_of, rounded, round_of};
@@ -25,7 +26,6 @@ use std::sync::ledger::Ledger;
 /// A page with the filters that are used on it, which knows which of them select which elements.
 ///
 /// A call that answers an error has used the engine up.
-#[derive(Drop)]
 pub struct Engine {
     page: PageState,
     filters: FilterSet,
@@ -49,6 +49,20 @@ impl Model for Engine {
     ghost invariant = { λ engine. IsKept engine.page engine.filters engine.marks };
 }
 
+impl Drop for Engine {
+    // In one place, since the crates above let an engine go at many an early return.
+    fn drop(self) {
+        let Engine {
+            page,
+            filters,
+            marks,
+        } = self;
+        drop(page);
+        drop(filters);
+        drop(marks);
+    }
+}
+
 impl Engine {
     /// An engine for a page and its filters, whose patterns the table has. Each question whether a filter selects an element
     /// counts as one of the `checks`, and each single test that is asked for it as one of the `parts`; so in each call. A
@@ -64,6 +78,7 @@ impl Engine {
         requires { AreAskable table.patterns active }
         ensures engine { IfOk result (λ engine. engine ≡ record { page = page; filters = active }) }
         ensures checks { checks.new ≤ checks.old + start_budget (record { page = page; filters = active }) }
+        ensures parts { parts.new ≤ parts.old + start_tests (record { page = page; filters = active }) }
     {
         let filters = FilterSet::of(alloc, table, active)?;
         let marks = ask_everything(alloc, &page, &filters, checks, parts)?;
@@ -87,7 +102,9 @@ impl Engine {
         ensures engine { IfOk result (λ done. done.0 ≡ mutated mutation self) }
         ensures outcome { IfOk result (λ done. done.1 ≡ outcome_of (change mutation self.page)) }
         ensures refused { IsErr (change mutation self.page) → checks.new ≡ checks.old }
+        ensures unseen { IsUnseen (change_of mutation self.page.tree) (mutated mutation self) → checks.new ≡ checks.old }
         ensures checks { checks.new ≤ checks.old + event_budget mutation self }
+        ensures parts { parts.new ≤ parts.old + event_tests mutation self }
     {
         let Engine {
             mut page,
@@ -119,6 +136,7 @@ impl Engine {
         ensures taken { IfOk result (λ done. done.1 ≡ round_of pattern_found self) }
         ensures quiet { round_of pattern_found self ≡ [] → checks.new ≡ checks.old }
         ensures checks { checks.new ≤ checks.old + round_budget self }
+        ensures parts { parts.new ≤ parts.old + round_tests self }
     {
         let Engine {
             mut page,

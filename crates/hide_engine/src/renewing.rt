@@ -5,10 +5,11 @@ ghost use Rattle.engine_meaning.specs.Rounds.{without_each};
 ghost use Rattle.engine_meaning.specs.States.{rounded, round_of};
 ghost use Rattle.mutation_script.specs.Changes.{change, changed, outcome_of};
 ghost use Rattle.mutation_script.specs.Inserted.{inserted};
-ghost use Rattle.hide_engine.specs.Budgets.{budget_of, event_budget, round_budget};
+ghost use Rattle.hide_engine.specs.Budgets.{budget_of, event_budget, event_tests, round_budget, round_tests};
 ghost use Rattle.hide_engine.specs.Changes.{dirtied_without};
 ghost use Rattle.hide_engine.specs.Exact.{AreExact};
 ghost use Rattle.hide_engine.specs.Ready.{state_of, AreReady};
+ghost use Rattle.retest.specs.Priced.{price, IsPriced};
 
 use crate::asking::ask_again;
 use crate::filter_set::FilterSet;
@@ -39,7 +40,9 @@ pub(crate) fn mutate<L: Ledger, P: Ledger>(
     ensures outcome { IfOk result (λ outcome. outcome ≡ outcome_of (change mutation page.old)) }
     ensures exact { OnOk result (AreExact (state_of page.new filters.now) marks.new) }
     ensures refused { IsErr (change mutation page.old) → checks.new ≡ checks.old }
+    ensures rises { checks.old ≤ checks.new }
     ensures checks { checks.new ≤ checks.old + event_budget mutation (state_of page.old filters.now) }
+    ensures parts { parts.new ≤ parts.old + event_tests mutation (state_of page.old filters.now) }
 {
     let mut pending = Pending::new(alloc);
     match make(alloc, page, filters, mutation, marks, &mut pending)? {
@@ -68,6 +71,7 @@ pub(crate) fn take_round<L: Ledger, P: Ledger>(
     ensures exact { OnOk result (AreExact (state_of page.new filters.now) marks.new) }
     ensures quiet { round_of pattern_found (state_of page.old filters.now) ≡ [] → checks.new ≡ checks.old }
     ensures checks { checks.new ≤ checks.old + round_budget (state_of page.old filters.now) }
+    ensures parts { parts.new ≤ parts.old + round_tests (state_of page.old filters.now) }
 {
     page.tree.is_tree();
     let rows = taken_rows(alloc, page, &filters.active, marks)?;
@@ -95,6 +99,8 @@ fn take<L: Ledger, P: Ledger>(
     ensures checks { checks.new ≤ checks.old
         + budget_of (state_of (record page.old { tree = without_each page.old.tree (map (λ row. row.node) rows.now) }) filters.now)
         (dirtied_without (map (λ row. row.node) rows.now) (state_of page.old filters.now)) }
+    ensures parts { IsPriced (price filters.now.active (without_each page.old.tree (map (λ row. row.node) rows.now)))
+        checks.old checks.new parts.old parts.new }
 {
     let mut pending = Pending::new(alloc);
     take_out_all(alloc, page, filters, rows, marks, &mut pending)?;

@@ -1,18 +1,22 @@
 -- What the lines of a script come to.
-use Rattle.std.proofs.Common.{◌≡◌, ◌∙◌, ℕ, Bool, List, Result, Ok, Err, ap}
+use Rattle.std.proofs.Common.{◌≡◌, ◌∙◌, ℕ, Bool, List, Result, Ok, Err, ap, sym}
+use Rattle.std.specs.Result.{result_unwrap_or}
 use Rattle.page_tree.specs.Refusals.{Refusal}
 use Rattle.page_tree.specs.Refusals as refusals
 use Rattle.dom_arena.specs.Refusals.{error_of}
+use Rattle.dom_arena.specs.declared.refusals.DomError.{DomError}
 use Rattle.dom_arena.specs.declared.refusals.DomError.TheVariants as errors
 use Rattle.selector_tree.specs.declared.filter.Taken.{Taken}
 use Rattle.mutation_script.specs.declared.answer.Answer.{Answer}
+use Rattle.mutation_script.specs.declared.answer.Outcome.{Outcome}
+use Rattle.mutation_script.specs.declared.answer.Outcome.TheVariants as outcomes
 use Rattle.mutation_script.specs.declared.mutation.ScriptLine.{ScriptLine}
 use Rattle.mutation_script.specs.declared.mutation.ScriptLine.TheVariants as says
 use Rattle.mutation_script.specs.declared.page.PageState.{PageState}
 use Rattle.mutation_script.specs.Changes.{answer, answer_by, change, outcome_of}
 use Rattle.engine_meaning.specs.States.{State}
 use Rattle.hide_report.specs.Reported.{IsAnswer}
-use Rattle.command_meaning.specs.Report.{Step, drilled_by, text_of_step}
+use Rattle.command_meaning.specs.Report.{Step, by_change, drilled_by, resting, settling, text_of_step}
 
 -- ---- want of memory is no answer
 
@@ -34,6 +38,20 @@ pub is_answer : (read : ScriptLine) (page : PageState) → IsAnswer (answer read
 is_answer (says.Mutation mutation) page = answered (change mutation page)
 is_answer says.Blank page = λ h. cc
 is_answer (says.Bad cause) page = λ h. cc
+
+-- ---- what a change comes to
+
+-- a change that was made, and rounds behind it
+pub made : (changed : Result PageState Refusal) (s behind : State) (outcome : Outcome) → outcome ≡ outcome_of changed → outcome ≡ outcomes.Done →
+    behind ≡ record s { page = result_unwrap_or changed s.page } → settling behind ≡ by_change changed s
+made (Ok page) s behind outcome said is at = ap settling at
+made (Err refusal) s behind outcome said is at = absurd (let no : outcome_of (Err refusal) ≡ outcomes.Done = sym said ∙ is in cc)
+
+-- one that was refused
+pub refused : (changed : Result PageState Refusal) (s behind : State) (outcome : Outcome) (error : DomError) → outcome ≡ outcome_of changed → outcome ≡ outcomes.Refused error →
+    behind ≡ record s { page = result_unwrap_or changed s.page } → resting behind ≡ by_change changed s
+refused (Ok page) s behind outcome error said is at = absurd (let no : outcomes.Done ≡ outcomes.Refused error = sym said ∙ is in cc)
+refused (Err refusal) s behind outcome error said is at = ap resting at
 
 -- ---- the same by equal parts
 

@@ -2,3 +2,6 @@ mod Numbers
 mod Following
 mod Written
 mod Lines
+pub mod Spending
+mod Patterns
+pub mod Unnumbered

@@ -5,6 +5,8 @@ ghost use Rattle.mutation_script.specs.Inserted.{inserted};
 ghost use Rattle.mutation_script.specs.Lines.{script_line};
 ghost use Rattle.mutation_script.specs.Changes.{answer};
 ghost use Rattle.command_meaning.specs.Report.{after_line, drilled_by, settling};
+ghost use Rattle.remove_rounds.specs.Costs.{questions, single_tests};
+ghost use Rattle.page_steps.specs.Costs.{line_cost, script_cost};
 
 use cos_outside::Steps;
 use cos_source::Lines;
@@ -43,6 +45,8 @@ pub fn follow_line<L: Ledger, P: Ledger>(
     ensures answer { IfOk result (λ followed. followed.answer ≡ answer (script_line line.now) engine.page) }
     ensures engine { IfOk result (λ followed. followed.engine ≡ (after_line (script_line line.now) engine).state) }
     ensures taken { IfOk result (λ followed. followed.taken ≡ (after_line (script_line line.now) engine).taken) }
+    ensures checks { checks.new ≤ checks.old + line_cost questions (script_line line.now) engine }
+    ensures parts { parts.new ≤ parts.old + line_cost single_tests (script_line line.now) engine }
 {
     match read_line(alloc, line)? {
         ScriptLine::Mutation(mutation) => follow_mutation(alloc, engine, mutation, checks, parts),
@@ -63,6 +67,8 @@ fn follow_mutation<L: Ledger, P: Ledger>(
     ensures answer { IfOk result (λ followed. followed.answer ≡ answer (ScriptLine.Mutation mutation) engine.page) }
     ensures engine { IfOk result (λ followed. followed.engine ≡ (after_line (ScriptLine.Mutation mutation) engine).state) }
     ensures taken { IfOk result (λ followed. followed.taken ≡ (after_line (ScriptLine.Mutation mutation) engine).taken) }
+    ensures checks { checks.new ≤ checks.old + line_cost questions (ScriptLine.Mutation mutation) engine }
+    ensures parts { parts.new ≤ parts.old + line_cost single_tests (ScriptLine.Mutation mutation) engine }
 {
     let (changed, outcome) = engine.apply(alloc, mutation, checks, parts)?;
     match outcome {
@@ -104,9 +110,11 @@ pub fn follow_script<L: Ledger, P: Ledger>(
 ) -> Result<(Engine, u64), AllocError>
     requires script { length script.now < 2 ^ 32 }
     requires numbers { engine.page.tree.next + length script.now ≤ 4294967295 }
-    ensures { IfOk result (λ done. record { state = done.0; taken = done.1 } ≡
+    ensures done { IfOk result (λ done. record { state = done.0; taken = done.1 } ≡
         drilled_by (record { state = (settling engine).state; taken = length (settling engine).taken })
         (numbered 1 (lines_of script.now))) }
+    ensures checks { checks.new ≤ checks.old + script_cost questions engine script.now }
+    ensures parts { parts.new ≤ parts.old + script_cost single_tests engine script.now }
 {
     let (settled, taken) = settle(alloc, engine, checks, parts)?;
     let mut page = settled;

@@ -5,6 +5,8 @@ ghost use Rattle.mutation_script.specs.Lines.{script_line};
 ghost use Rattle.mutation_script.specs.Changes.{answer};
 ghost use Rattle.hide_report.specs.Reported.{IsAnswer, Reports, ReportsAll};
 ghost use Rattle.command_meaning.specs.Report.{after_line, lines_texts, steps_texts, text_of_step};
+ghost use Rattle.remove_rounds.specs.Costs.{questions, single_tests};
+ghost use Rattle.page_steps.specs.Costs.{line_cost, lines_cost, script_cost};
 
 use crate::follow::{Followed, follow_line};
 use cos_outside::{Sink, Steps};
@@ -29,8 +31,10 @@ pub fn write_steps<O: Sink, L: Ledger, P: Ledger>(
 ) -> Result<(), ReportError>
     requires script { length script.now < 2 ^ 32 }
     requires numbers { engine.page.tree.next + length script.now ≤ 4294967295 }
-    ensures { ReportsAll O.tells O.written O.faults out.old out.new
+    ensures texts { ReportsAll O.tells O.written O.faults out.old out.new
         (steps_texts brief engine script.now) result }
+    ensures checks { checks.new ≤ checks.old + script_cost questions engine script.now }
+    ensures parts { parts.new ≤ parts.old + script_cost single_tests engine script.now }
 {
     let (engine, taken) = settle(alloc, engine, checks, parts)?;
     let opened = Followed {
@@ -58,6 +62,8 @@ fn write_lines<O: Sink, L: Ledger, P: Ledger>(
     ensures count { IfOk result (λ count. count ≡ length (lines_of script.now)) }
     ensures texts { ReportsAll O.tells O.written O.faults out.old out.new
         (lines_texts brief engine (numbered 1 (lines_of script.now))) result }
+    ensures checks { checks.new ≤ checks.old + lines_cost questions engine (numbered 1 (lines_of script.now)) }
+    ensures parts { parts.new ≤ parts.old + lines_cost single_tests engine (numbered 1 (lines_of script.now)) }
 {
     let mut page = engine;
     let mut count = 0;
@@ -84,6 +90,8 @@ fn write_line<O: Sink, L: Ledger, P: Ledger>(
     ensures text { Reports O.tells O.written O.faults out.old out.new
         (text_of_step brief line.entry.number (answer (script_line line.entry.bytes.now) engine.page)
         (after_line (script_line line.entry.bytes.now) engine)) result }
+    ensures checks { checks.new ≤ checks.old + line_cost questions (script_line line.entry.bytes.now) engine }
+    ensures parts { parts.new ≤ parts.old + line_cost single_tests (script_line line.entry.bytes.now) engine }
 {
     let followed = follow_line(alloc, engine, line.bytes, checks, parts)?;
     write_followed(alloc, out, brief, line.number, &followed)?;

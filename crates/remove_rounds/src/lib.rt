@@ -4,10 +4,11 @@
 //! `engine_meaning` says of them.
 #![tactic(auto)]
 
-ghost use Rattle.std.specs.Prelude.{◌≡◌, [], ◌++◌, map, IfOk, OnOk};
+ghost use Rattle.std.specs.Prelude.{◌≡◌, ◌+◌, ◌≤◌, [], ◌++◌, map, IfOk, OnOk};
 ghost use Rattle.cos_patterns.specs.Found.{pattern_found};
 ghost use Rattle.engine_meaning.specs.Rounds.{removed};
 ghost use Rattle.engine_meaning.specs.States.{settled_state, taken_of};
+ghost use Rattle.remove_rounds.specs.Costs.{questions, single_tests, settling_cost};
 ghost use Rattle.remove_rounds.specs.Numbered.{in_round};
 
 use cos_outside::Steps;
@@ -17,7 +18,7 @@ use std::alloc::{AllocError, Global};
 use std::sync::ledger::Ledger;
 
 /// Makes rounds until one takes nothing, and answers what each of them took, numbered from 1. Nothing that a filter removes
-/// is left then.
+/// is left then. Each round asks no more than its budget, also where memory runs out.
 pub fn settle<L: Ledger, P: Ledger>(
     alloc: Global,
     engine: Engine,
@@ -28,6 +29,8 @@ pub fn settle<L: Ledger, P: Ledger>(
     ensures taken { IfOk result (λ done. done.1 ≡ taken_of pattern_found engine) }
     ensures quiet { IfOk result (λ done.
         removed pattern_found engine.filters engine.page.path done.0.page.tree ≡ []) }
+    ensures checks { checks.new ≤ checks.old + settling_cost questions engine }
+    ensures parts { parts.new ≤ parts.old + settling_cost single_tests engine }
 {
     let mut taken = TakenList::new(alloc);
     let mut engine = engine;

@@ -2,3 +2,4 @@ pub mod Sets
 pub mod Visits
 pub mod Keys
 pub mod Starting
+pub mod Pricing

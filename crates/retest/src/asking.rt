@@ -4,9 +4,10 @@ ghost use Rattle.std.specs.List.{list_any};
 ghost use Rattle.page_tree.specs.Standings.{all};
 ghost use Rattle.page_tree.specs.Directions.{is_in};
 ghost use Rattle.selector_match.specs.Asked.{IsElement};
-ghost use Rattle.kept_marks.specs.Kept.{is_marked};
+ghost use Rattle.kept_marks.specs.Kept.{is_marked, Sets};
 ghost use Rattle.retest_laws.specs.Pending.{asked_again, due_at, budget, IsRightBut, IsExact};
 ghost use Rattle.retest.specs.Asked.{answers, carried, group_in, pends, IsReady};
+ghost use Rattle.retest.specs.Priced.{price, IsPriced};
 
 use crate::{Everything, Pending, Pends};
 use cos_outside::Steps;
@@ -119,6 +120,38 @@ fn clear_all(marks: &mut Marks, stale: &[u32], x: u32)
     }
 }
 
+// Asks a filter of an element, and marks the answer.
+fn ask<L: Ledger, P: Ledger>(
+    alloc: Global,
+    asking: &Asking<'_>,
+    f: u32,
+    x: u32,
+    marks: &mut Marks,
+    checks: &mut Steps<L>,
+    parts: &mut Steps<P>,
+) -> Result<(), AllocError>
+    requires ready { IsReady asking.now }
+    requires element { IsElement asking.now.dom.now x }
+    requires filter { f < length asking.now.active.now }
+    ensures marks { OnOk result (Sets marks.old marks.new f x (answers asking.now f x)) }
+    ensures checks { checks.new ≡ checks.old + 1 }
+    ensures parts { IsPriced (price asking.now.active.now asking.now.dom.now)
+        checks.old checks.new parts.old parts.new }
+{
+    let verdict = test(
+        alloc,
+        asking.dom,
+        asking.path,
+        asking.table,
+        asking.active,
+        f,
+        x,
+        checks,
+        parts,
+    )?;
+    marks.put(verdict)
+}
+
 // Asks some filters of an element, and marks the answers.
 fn ask_all<L: Ledger, P: Ledger>(
     alloc: Global,
@@ -135,20 +168,11 @@ fn ask_all<L: Ledger, P: Ledger>(
     ensures marks { OnOk result ((g y : ℕ) → is_marked marks.new g y ≡
         cond (y == x && is_in due.now g) (answers asking.now g y) (is_marked marks.old g y)) }
     ensures checks { checks.new ≤ checks.old + length due.now }
+    ensures parts { IsPriced (price asking.now.active.now asking.now.dom.now)
+        checks.old checks.new parts.old parts.new }
 {
     for f in due {
-        let verdict = test(
-            alloc,
-            asking.dom,
-            asking.path,
-            asking.table,
-            asking.active,
-            *f,
-            x,
-            checks,
-            parts,
-        )?;
-        marks.put(verdict)?;
+        ask(alloc, asking, *f, x, marks, checks, parts)?;
     }
     Ok(())
 }
@@ -170,6 +194,8 @@ fn ask_at<W: Pends, L: Ledger, P: Ledger>(
         (carried asking.now g y && answers asking.now g y) (is_marked marks.old g y)) }
     ensures checks { checks.new ≤ checks.old +
         due_at (length asking.now.active.now) (carried asking.now) (λ f y. W.pends pending.now (group_in asking.now.groups.now f) y) x }
+    ensures parts { IsPriced (price asking.now.active.now asking.now.dom.now)
+        checks.old checks.new parts.old parts.new }
 {
     let due = due_of(alloc, asking, pending, x)?;
     let stale = stale_of(alloc, asking.groups, pending, marks.of(x), x)?;
@@ -192,6 +218,8 @@ fn ask_pending<L: Ledger, P: Ledger>(
         (pends asking.now pending.now) (is_marked marks.old) f x) }
     ensures checks { checks.new ≤ checks.old +
         budget (length asking.now.active.now) (all asking.now.dom.now) (carried asking.now) (pends asking.now pending.now) }
+    ensures parts { IsPriced (price asking.now.active.now asking.now.dom.now)
+        checks.old checks.new parts.old parts.new }
 {
     for x in pending.elements() {
         if is_element(asking.dom, *x) {
@@ -222,6 +250,8 @@ pub fn retest<L: Ledger, P: Ledger>(
         OnOk result (IsExact (all asking.now.dom.now) (answers asking.now) (is_marked marks.new)) }
     ensures checks { checks.new ≤ checks.old +
         budget (length asking.now.active.now) (all asking.now.dom.now) (carried asking.now) (pends asking.now pending.now) }
+    ensures parts { IsPriced (price asking.now.active.now asking.now.dom.now)
+        checks.old checks.new parts.old parts.new }
 {
     ask_pending(alloc, asking, pending, marks, checks, parts)
 }
@@ -238,6 +268,8 @@ pub fn start<L: Ledger, P: Ledger>(
         IsExact (all asking.now.dom.now) (answers asking.now) (is_marked marks)) }
     ensures checks { checks.new ≤ checks.old +
         budget (length asking.now.active.now) (all asking.now.dom.now) (carried asking.now) (λ f x. true) }
+    ensures parts { IsPriced (price asking.now.active.now asking.now.dom.now)
+        checks.old checks.new parts.old parts.new }
 {
     asking.dom.is_tree();
     let mut marks = Marks::new(alloc);

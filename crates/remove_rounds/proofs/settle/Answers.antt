@@ -1,4 +1,4 @@
-use Rattle.std.proofs.Common.{◌++◌, ◌+◌, ◌<◌, List, length, ap, sym, subst, refl, ◌∙◌, arith}
+use Rattle.std.proofs.Common.{◌≡◌, ◌++◌, ◌+◌, ◌<◌, ◌≤◌, [], List, length, ap, sym, subst, refl, ◌∙◌, arith}
 use Rattle.page_tree.specs.Trees.{IsTree}
 use Rattle.page_tree.specs.Standings.{all}
 use Rattle.cos_patterns.specs.Found.{pattern_found}
@@ -7,6 +7,8 @@ use Rattle.engine_meaning.specs.Rounds.{removed, taken_from}
 use Rattle.engine_meaning.specs.States.{State, settled_state, taken_of}
 use Rattle.engine_meaning.proofs.Settling.{settled-quiet}
 use Rattle.remove_rounds.proofs.Rounds.{few_elements, no_rows, some_rows, ended, ended_taken, fewer, settled_later, taken_later}
+use Rattle.remove_rounds.specs.Costs.{questions, single_tests, settling_cost}
+use Rattle.remove_rounds.proofs.Spending.{goes_on, questions_within, round_questions, round_singles, singles_within}
 use Rattle.remove_rounds.proofs.settle.Goals as goal
 
 pub rounds-init : goal.rounds-init
@@ -15,6 +17,8 @@ rounds-init g c =
       settled = refl;
       taken = ap (λ (rows : List Taken). rows ++ taken_of pattern_found c.args.engine) c.new-taken.ensures;
       few = omega (arith, few_elements c.args.engine.page.tree (subst IsTree c.dom.ensures c.is_tree.ensures));
+      checks = omega arith;
+      parts = omega arith;
     }
 
 pub returns-then-len-eq0-clause-engine : goal.returns-then-len-eq0-clause-engine
@@ -53,4 +57,24 @@ rounds-preserved g c =
           ∙ taken_later c.rounds.engine some c.rounds.number c.rounds.taken c.add_round.new.taken _ c.in_ok-next.rows c.in_ok-next.ensures.taken
           c.in_ok-add_round.ensures c.rounds.invariant.taken;
       few = omega (arith, less, c.rounds.invariant.few);
+      checks = omega (arith, goes_on questions c.rounds.engine c.in_ok-next.next c.in_ok-next.ensures.engine some, round_questions c.rounds.engine, c.in_ok-next.ensures.checks, c.rounds.invariant.checks);
+      parts = omega (arith, goes_on single_tests c.rounds.engine c.in_ok-next.next c.in_ok-next.ensures.engine some, round_singles c.rounds.engine, c.in_ok-next.ensures.parts, c.rounds.invariant.parts);
     }
+
+pub returns-then-len-eq0-clause-checks : goal.returns-then-len-eq0-clause-checks
+returns-then-len-eq0-clause-checks g c = omega (arith, questions_within c.rounds.engine, c.in_ok-next.ensures.checks, c.rounds.invariant.checks)
+
+pub returns-then-len-eq0-clause-parts : goal.returns-then-len-eq0-clause-parts
+returns-then-len-eq0-clause-parts g c = omega (arith, singles_within c.rounds.engine, c.in_ok-next.ensures.parts, c.rounds.invariant.parts)
+
+pub returns-in_err-next-clause-checks : goal.returns-in_err-next-clause-checks
+returns-in_err-next-clause-checks g c = omega (arith, questions_within c.rounds.engine, c.in_err-next.ensures.checks, c.rounds.invariant.checks)
+
+pub returns-in_err-next-clause-parts : goal.returns-in_err-next-clause-parts
+returns-in_err-next-clause-parts g c = omega (arith, singles_within c.rounds.engine, c.in_err-next.ensures.parts, c.rounds.invariant.parts)
+
+pub returns-in_err-add_round-clause-checks : goal.returns-in_err-add_round-clause-checks
+returns-in_err-add_round-clause-checks g c = omega (arith, questions_within c.rounds.engine, c.in_ok-next.ensures.checks, c.rounds.invariant.checks)
+
+pub returns-in_err-add_round-clause-parts : goal.returns-in_err-add_round-clause-parts
+returns-in_err-add_round-clause-parts g c = omega (arith, singles_within c.rounds.engine, c.in_ok-next.ensures.parts, c.rounds.invariant.parts)

@@ -14,6 +14,10 @@ use Rattle.command_meaning.specs.Report.{apply_report, lists_from}
 use Rattle.cosmetic_top.specs.Runs.{RunsAs}
 use Rattle.cosmetic_top.proofs.Ends.{exits, failed, never_refused, no_memory, refused, wrote}
 use Rattle.cosmetic_top.proofs.Texts.{report_is}
+use Rattle.remove_rounds.specs.Costs.{questions, single_tests}
+use Rattle.page_steps.proofs.Unnumbered.{questions_bare, singles_bare}
+use Rattle.command_inputs.specs.Inputs.{apply_inputs}
+use Rattle.cosmetic_top.proofs.Spending.{due_costs}
 use Rattle.cosmetic_top.proofs.apply.apply.Goals as goal
 
 -- what is due behind the inputs
@@ -50,7 +54,7 @@ returns-in-Ok-clause-runs g c =
     (reads_then (behind words) c.in_ok-inputs.ensures.reads (reads_none c.read_apply.new.shelf (Ok texts) (Ok texts) refl (none_at_ok texts)))
     (subst (λ (ts : List (List ℕ)). WritesTexts o.tells o.written o.faults OutputFault OutputMemory c.args.out.now c.write_report.new.out ts (Ok c.in-Ok.field-0))
     (report_is words.env (g.M.Maker.large maker) (g.M.Maker.unread maker) inputs.sources c.in_ok-read.read read.bad read.rules read.lists words.brief inputs refl)
-    c.in-Ok.ensures)
+    c.in-Ok.ensures.texts)
 
 pub returns-in-Err-clause-runs : goal.returns-in-Err-clause-runs
 returns-in-Err-clause-runs g c =
@@ -69,7 +73,39 @@ returns-in-Err-clause-runs g c =
     (reads_then (behind words) c.in_ok-inputs.ensures.reads (reads_none c.read_apply.new.shelf (Ok texts) (Ok texts) refl (none_at_ok texts)))
     (subst (λ (ts : List (List ℕ)). WritesTexts {T = Unit {0}} o.tells o.written o.faults OutputFault OutputMemory c.args.out.now c.write_report.new.out ts (Err c.in-Err.error))
     (report_is words.env large unread inputs.sources c.in_ok-read.read read.bad read.rules read.lists words.brief inputs refl)
-    c.in-Err.ensures))
+    c.in-Err.ensures.texts))
 
 pub returns-in-Err-clause-too_large : goal.returns-in-Err-clause-too_large
 returns-in-Err-clause-too_large g c = λ e. absurd (never_refused c.in-Err.error c.status_of.result AddressTooLarge c.status_of.ensures e)
+
+pub returns-in-Ok-clause-checks : goal.returns-in-Ok-clause-checks
+returns-in-Ok-clause-checks g c told =
+    let words = c.args.words.now in
+    let inputs = c.in_ok-inputs.inputs in
+    let maker = c.read_sources.new.maker in
+    due_costs words.env (g.M.Maker.large maker) (g.M.Maker.unread maker) inputs c.in_ok-read.read c.in_ok-read.ensures.rules c.in_ok-read.ensures.lists questions questions_bare
+    words (apply_inputs words (g.S.Shelf.files c.args.shelf.now)).answer c.args.checks.now c.write_report.new.checks refl (c.in_ok-inputs.ensures.reads.is_due told) c.in-Ok.ensures.checks
+
+pub returns-in-Err-clause-checks : goal.returns-in-Err-clause-checks
+returns-in-Err-clause-checks g c told =
+    let words = c.args.words.now in
+    let inputs = c.in_ok-inputs.inputs in
+    let maker = c.read_sources.new.maker in
+    due_costs words.env (g.M.Maker.large maker) (g.M.Maker.unread maker) inputs c.in_ok-read.read c.in_ok-read.ensures.rules c.in_ok-read.ensures.lists questions questions_bare
+    words (apply_inputs words (g.S.Shelf.files c.args.shelf.now)).answer c.args.checks.now c.write_report.new.checks refl (c.in_ok-inputs.ensures.reads.is_due told) c.in-Err.ensures.checks
+
+pub returns-in-Ok-clause-parts : goal.returns-in-Ok-clause-parts
+returns-in-Ok-clause-parts g c told =
+    let words = c.args.words.now in
+    let inputs = c.in_ok-inputs.inputs in
+    let maker = c.read_sources.new.maker in
+    due_costs words.env (g.M.Maker.large maker) (g.M.Maker.unread maker) inputs c.in_ok-read.read c.in_ok-read.ensures.rules c.in_ok-read.ensures.lists single_tests singles_bare
+    words (apply_inputs words (g.S.Shelf.files c.args.shelf.now)).answer c.args.parts.now c.write_report.new.parts refl (c.in_ok-inputs.ensures.reads.is_due told) c.in-Ok.ensures.parts
+
+pub returns-in-Err-clause-parts : goal.returns-in-Err-clause-parts
+returns-in-Err-clause-parts g c told =
+    let words = c.args.words.now in
+    let inputs = c.in_ok-inputs.inputs in
+    let maker = c.read_sources.new.maker in
+    due_costs words.env (g.M.Maker.large maker) (g.M.Maker.unread maker) inputs c.in_ok-read.read c.in_ok-read.ensures.rules c.in_ok-read.ensures.lists single_tests singles_bare
+    words (apply_inputs words (g.S.Shelf.files c.args.shelf.now)).answer c.args.parts.now c.write_report.new.parts refl (c.in_ok-inputs.ensures.reads.is_due told) c.in-Err.ensures.parts

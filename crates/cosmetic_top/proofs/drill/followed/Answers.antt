@@ -15,7 +15,7 @@ count_lines-steps-requires g c = omega (arith, ap length c.as_bytes-script.ensur
 pub returns-clause-end : goal.returns-clause-end
 returns-clause-end g c =
     end_is c.args.number c.args.engine c.as_bytes-script.result.now (record { state = c.in_ok-behind.behind; taken = c.in_ok-behind.taken })
-    (c.as_bytes-script.ensures.value ∙ c.in_ok-text.ensures.text) c.in_ok-behind.ensures
+    (c.as_bytes-script.ensures.value ∙ c.in_ok-text.ensures.text) c.in_ok-behind.ensures.done
 
 pub returns-clause-steps : goal.returns-clause-steps
 returns-clause-steps g c =

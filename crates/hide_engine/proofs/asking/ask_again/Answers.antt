@@ -36,3 +36,6 @@ returns-clause-checks g c =
     (λ (groups : List ℕ). c.retest.new.checks ≤ c.args.checks.now
     + budget (length c.args.filters.now.active) (all c.args.page.now.tree) (carried (state_of c.args.page.now c.args.filters.now)) (λ f x. is_pending c.args.pending.now (group_in groups f) x))
     c.as_slice.ensures c.retest.ensures.checks
+
+pub returns-clause-parts : goal.returns-clause-parts
+returns-clause-parts g c = c.retest.ensures.parts

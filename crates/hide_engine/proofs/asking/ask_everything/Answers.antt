@@ -21,3 +21,6 @@ returns-clause-exact g c =
 
 pub returns-clause-checks : goal.returns-clause-checks
 returns-clause-checks g c = c.start.ensures.checks
+
+pub returns-clause-parts : goal.returns-clause-parts
+returns-clause-parts g c = c.start.ensures.parts

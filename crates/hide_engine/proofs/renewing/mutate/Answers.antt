@@ -2,6 +2,9 @@ use Rattle.std.proofs.Common.{◌≤◌, ◌+◌, ℕ, List, false, sym, subst, 
 use Rattle.mutation_script.specs.declared.page.PageState.{PageState}
 use Rattle.mutation_script.specs.Changes.{change, changed}
 use Rattle.retest.specs.Asked.{group_in}
+use Rattle.retest.specs.Priced.{IsPriced, price}
+use Rattle.retest.proofs.Pricing.{tested_within}
+use Rattle.hide_engine.specs.Budgets.{event_budget}
 use Rattle.hide_engine.specs.Changes.{dirtied_by}
 use Rattle.hide_engine.specs.Exact.{AreExact}
 use Rattle.hide_engine.specs.Ready.{state_of}
@@ -44,3 +47,27 @@ returns-in_err-ask_again-in-Done-clause-checks g c =
     (event_asks c.make.new.page (changed c.args.mutation page) filters c.make.new.pending (dirtied_by c.args.mutation (state_of page filters)) c.in_ok-error.ensures.page
     (c.in_ok-error.ensures.given (λ f x. false) (λ f x lt. c.new-pending.ensures (group_in filters.groups.numbers f) x)))
     c.ask_again.ensures.checks
+
+pub returns-clause-parts : goal.returns-clause-parts
+returns-clause-parts g c =
+    let page = c.args.page.now in
+    let filters = c.args.filters.now in
+    tested_within (event_budget c.args.mutation (state_of page filters))
+    (subst (λ (p : PageState). IsPriced (price filters.active p.tree) c.args.checks.now c.ask_again.new.checks c.args.parts.now c.ask_again.new.parts)
+    c.in_ok-error.ensures.page c.ask_again.ensures.parts)
+    (returns-clause-checks g c)
+
+pub returns-in_err-ask_again-in-Done-clause-parts : goal.returns-in_err-ask_again-in-Done-clause-parts
+returns-in_err-ask_again-in-Done-clause-parts g c =
+    let page = c.args.page.now in
+    let filters = c.args.filters.now in
+    tested_within (event_budget c.args.mutation (state_of page filters))
+    (subst (λ (p : PageState). IsPriced (price filters.active p.tree) c.args.checks.now c.ask_again.new.checks c.args.parts.now c.ask_again.new.parts)
+    c.in_ok-error.ensures.page c.ask_again.ensures.parts)
+    (returns-in_err-ask_again-in-Done-clause-checks g c)
+
+pub returns-clause-rises : goal.returns-clause-rises
+returns-clause-rises g c = c.ask_again.ensures.parts.rises
+
+pub returns-in_err-ask_again-in-Done-clause-rises : goal.returns-in_err-ask_again-in-Done-clause-rises
+returns-in_err-ask_again-in-Done-clause-rises g c = c.ask_again.ensures.parts.rises

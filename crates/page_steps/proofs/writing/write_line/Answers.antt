@@ -36,3 +36,21 @@ returns-clause-text g c =
     same_text followed.engine
     (step_alike c.args.brief c.args.line.number followed.answer (answer read c.args.engine.page) followed.engine followed.taken (after_line read c.args.engine)
     c.in_ok-followed.ensures.answer c.in_ok-followed.ensures.engine c.in_ok-followed.ensures.taken) c.in_ok-write_followed.ensures
+
+pub returns-in_err-followed-clause-checks : goal.returns-in_err-followed-clause-checks
+returns-in_err-followed-clause-checks g c = c.in_err-followed.ensures.checks
+
+pub returns-in_err-write_followed-clause-checks : goal.returns-in_err-write_followed-clause-checks
+returns-in_err-write_followed-clause-checks g c = c.in_ok-followed.ensures.checks
+
+pub returns-clause-checks : goal.returns-clause-checks
+returns-clause-checks g c = c.in_ok-followed.ensures.checks
+
+pub returns-in_err-followed-clause-parts : goal.returns-in_err-followed-clause-parts
+returns-in_err-followed-clause-parts g c = c.in_err-followed.ensures.parts
+
+pub returns-in_err-write_followed-clause-parts : goal.returns-in_err-write_followed-clause-parts
+returns-in_err-write_followed-clause-parts g c = c.in_ok-followed.ensures.parts
+
+pub returns-clause-parts : goal.returns-clause-parts
+returns-clause-parts g c = c.in_ok-followed.ensures.parts

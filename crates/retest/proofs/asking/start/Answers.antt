@@ -7,6 +7,8 @@ use Rattle.kept_marks.specs.Kept.{is_marked}
 use Rattle.retest_laws.specs.Pending.{budget}
 use Rattle.retest.specs.Asked.{answers, carried}
 use Rattle.retest.proofs.Keys.{keyed}
+use Rattle.retest.specs.Priced.{price}
+use Rattle.retest.proofs.Pricing.{asked_more, none_asked}
 use Rattle.retest.proofs.Starting.{one_asked, one_due}
 use Rattle.retest.proofs.asking.start.Goals as goal
 
@@ -24,6 +26,7 @@ elements-init g c =
           ap (λ b. b || (is_in left x && answers asking f x)) (c.new-marks.ensures f x)
           ∙ ap (λ (xs : List ℕ). is_in xs x && answers asking f x) first;
       checks = omega (arith, same);
+      parts = none_asked (price asking.active.now t) c.args.checks.now c.args.parts.now;
       element = λ m e. some_of (λ n. is_in (all t) n ≡ true) c.next_element-at.result m c.next_element-at.ensures.element e;
       there = λ m e. some_of (λ n. is_in (order t) n ≡ true) c.next_element-at.result m c.next_element-at.ensures.there e;
     }
@@ -44,6 +47,7 @@ elements-preserved g c =
           one_asked x n (all t) left rest (is_marked c.ask_at.new.marks f x) (is_marked c.elements.marks f x) (answers asking f x) (carried asking f x)
           (c.elements.invariant.element n c.in-Some.is) is (keyed asking f x) (c.in_ok-ask_at.ensures.marks f x) (c.elements.invariant.marks f x);
       checks = omega (arith, due, c.ask_at.ensures.checks, c.elements.invariant.checks);
+      parts = asked_more c.elements.invariant.parts c.ask_at.ensures.parts;
       element = λ m e. some_of (λ n. is_in (all t) n ≡ true) c.next_element-at-in-Some.result m c.next_element-at-in-Some.ensures.element e;
       there = λ m e. some_of (λ n. is_in (order t) n ≡ true) c.next_element-at-in-Some.result m c.next_element-at-in-Some.ensures.there e;
     }

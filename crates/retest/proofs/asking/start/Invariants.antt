@@ -7,6 +7,7 @@ use Rattle.procedural_ops.specs.Walks.{elements_behind, order}
 use Rattle.procedural_ops.proofs.Walking.{from_one}
 use Rattle.retest_laws.specs.Pending.{budget}
 use Rattle.retest.specs.Asked.{answers, carried}
+use Rattle.retest.specs.Priced.{price, IsPriced}
 use Rattle.retest.proofs.asking.start.Given as goal
 
 -- with the elements that are left, the marks are exact, and what was asked is within the budget
@@ -19,6 +20,7 @@ invariant-elements g l =
           (is_marked l.marks f x || (is_in left x && answers l.asking f x)) ≡ (is_in (all t) x && answers l.asking f x);
       checks : l.checks + budget (length l.asking.active.now) left (carried l.asking) (λ f x. true)
           ≤ l.initial.checks + budget (length l.asking.active.now) (all t) (carried l.asking) (λ f x. true);
+      parts : IsPriced (price l.asking.active.now l.asking.dom.now) l.initial.checks l.checks l.initial.parts l.parts;
       element : (m : ℕ) → l.at ≡ Some m → IsElement t m;
       there : (m : ℕ) → l.at ≡ Some m → is_in (order t) m ≡ true;
     }

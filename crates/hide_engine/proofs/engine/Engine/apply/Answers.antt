@@ -1,7 +1,9 @@
 use Rattle.std.proofs.Common.{◌≤◌, ◌+◌, IsErr, sym, subst}
 use Rattle.mutation_script.specs.Changes.{change}
-use Rattle.engine_meaning.specs.States.{State}
-use Rattle.hide_engine.specs.Budgets.{event_budget}
+use Rattle.engine_meaning.specs.States.{State, mutated}
+use Rattle.hide_engine.specs.Budgets.{event_budget, event_tests}
+use Rattle.hide_engine.specs.Changes.{change_of, IsUnseen}
+use Rattle.hide_engine.proofs.Unseen.{unasked}
 use Rattle.hide_engine.proofs.engine.Engine.apply.Goals as goal
 
 pub returns-clause-refused : goal.returns-clause-refused
@@ -17,3 +19,18 @@ returns-in_err-outcome-clause-refused g c refused = c.mutate.ensures.refused (su
 pub returns-in_err-outcome-clause-checks : goal.returns-in_err-outcome-clause-checks
 returns-in_err-outcome-clause-checks g c =
     subst (λ (s : State). c.mutate.new.checks ≤ c.args.checks.now + event_budget c.args.mutation s) c.self.view_is c.mutate.ensures.checks
+
+pub returns-clause-unseen : goal.returns-clause-unseen
+returns-clause-unseen g c unseen = unasked c.args.mutation c.args.self c.args.checks.now c.mutate.new.checks unseen c.mutate.ensures.rises (returns-clause-checks g c)
+
+pub returns-in_err-outcome-clause-unseen : goal.returns-in_err-outcome-clause-unseen
+returns-in_err-outcome-clause-unseen g c unseen =
+    unasked c.args.mutation c.args.self c.args.checks.now c.mutate.new.checks unseen c.mutate.ensures.rises (returns-in_err-outcome-clause-checks g c)
+
+pub returns-clause-parts : goal.returns-clause-parts
+returns-clause-parts g c =
+    subst (λ (s : State). c.mutate.new.parts ≤ c.args.parts.now + event_tests c.args.mutation s) c.self.view_is c.mutate.ensures.parts
+
+pub returns-in_err-outcome-clause-parts : goal.returns-in_err-outcome-clause-parts
+returns-in_err-outcome-clause-parts g c =
+    subst (λ (s : State). c.mutate.new.parts ≤ c.args.parts.now + event_tests c.args.mutation s) c.self.view_is c.mutate.ensures.parts

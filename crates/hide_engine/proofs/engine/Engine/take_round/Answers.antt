@@ -1,7 +1,7 @@
 use Rattle.std.proofs.Common.{◌≤◌, ◌+◌, ap, subst, ◌∙◌}
 use Rattle.cos_patterns.specs.Found.{pattern_found}
 use Rattle.engine_meaning.specs.States.{State, rounded, round_of}
-use Rattle.hide_engine.specs.Budgets.{round_budget}
+use Rattle.hide_engine.specs.Budgets.{round_budget, round_tests}
 use Rattle.hide_engine.proofs.engine.Engine.take_round.Goals as goal
 
 pub returns-clause-engine : goal.returns-clause-engine
@@ -23,3 +23,11 @@ returns-in_err-rows-clause-quiet g c none = c.take_round.ensures.quiet (ap (roun
 pub returns-in_err-rows-clause-checks : goal.returns-in_err-rows-clause-checks
 returns-in_err-rows-clause-checks g c =
     subst (λ (s : State). c.take_round.new.checks ≤ c.args.checks.now + round_budget s) c.self.view_is c.take_round.ensures.checks
+
+pub returns-clause-parts : goal.returns-clause-parts
+returns-clause-parts g c =
+    subst (λ (s : State). c.take_round.new.parts ≤ c.args.parts.now + round_tests s) c.self.view_is c.take_round.ensures.parts
+
+pub returns-in_err-rows-clause-parts : goal.returns-in_err-rows-clause-parts
+returns-in_err-rows-clause-parts g c =
+    subst (λ (s : State). c.take_round.new.parts ≤ c.args.parts.now + round_tests s) c.self.view_is c.take_round.ensures.parts
