@@ -1,5 +1,5 @@
 -- What was read costs what is due of the files, and a page costs its opening and then its script.
-use Rattle.std.proofs.Common.{◌≡◌, ◌∙◌, ℕ, ◌+◌, ◌≤◌, List, map, Option, Some, None, Result, Ok, Err, refl, sym, ap, ap₂, arith}
+use Rattle.std.proofs.Common.{◌≡◌, ◌∙◌, ℕ, ◌+◌, ◌≤◌, List, [], map, Option, Some, None, Result, Ok, Err, refl, sym, ap, ap₂, arith}
 use Rattle.page_tree.specs.Forest.{Tree}
 use Rattle.cos_source.specs.Lines.{lines_of, numbered}
 use Rattle.cos_source.specs.Mark.{without_mark}
@@ -22,11 +22,12 @@ use Rattle.command_inputs.specs.declared.inputs.ApplyInputs.{ApplyInputs}
 use Rattle.command_inputs.specs.declared.status.Status.{Status}
 use Rattle.command_inputs.specs.Due.{Files}
 use Rattle.command_meaning.specs.Numbers.{unnumbered_filter, unnumbered_list, unnumbered_state}
-use Rattle.command_meaning.specs.Report.{lists_from, opened_state}
+use Rattle.command_meaning.specs.Generator.{drill_script}
+use Rattle.command_meaning.specs.Report.{drill_address, drill_inputs, lists_from, opened_state}
 use Rattle.command_meaning.proofs.Active.{active_unnumbered}
 use Rattle.list_files.specs.declared.reading.SourcesRead.{SourcesRead}
-use Rattle.cosmetic_top.specs.Costs.{apply_cost, command_cost, page_cost, words_cost}
-use Rattle.cosmetic_top.specs.Reports.{state_of}
+use Rattle.cosmetic_top.specs.Costs.{apply_cost, command_cost, drill_cost, drill_state, page_cost, words_cost}
+use Rattle.cosmetic_top.specs.Reports.{IsDrillState, state_of}
 
 -- ---- the opening of a page, and then its script
 
@@ -84,3 +85,41 @@ pub words_costs : (costs : Costs) (command : Option Command) (words : Command) (
     command_cost costs words files large unread ≡ words_cost costs command files large unread
 unfolding words_cost
 words_costs costs command words files large unread e = ap (λ (o : Option Command). words_cost costs o files large unread) (sym e)
+
+-- ---- a drill
+
+module _ {large : List Asked} {unread : List Written} {tree : Tree} (s : State) (h : IsDrillState large unread tree s) (costs : Costs) (same : IgnoresNumbers costs) where
+  abbrev drill_filters : List Filter → State
+  drill_filters filters = record { page = record { tree = tree; path = drill_address.path }; filters = filters }
+
+  drill_bare : opened_state (drill_inputs 0 tree) (map unnumbered_list h.lists) ≡ unnumbered_state (opened_state (drill_inputs 0 tree) h.lists)
+  drill_bare = ap drill_filters (active_unnumbered h.lists drill_address (rules_of (numbered 1 (lines_of (without_mark [])))))
+
+  -- whatever hangs on the page without the numbers of patterns
+  drill_alike : (cost : State → ℕ) → ((x : State) → cost (unnumbered_state x) ≡ cost x) → cost s ≡ cost (drill_state large unread tree)
+  drill_alike cost bare =
+      ap cost h.state ∙ sym (bare (opened_state (drill_inputs 0 tree) h.lists)) ∙ ap cost (sym drill_bare)
+      ∙ ap (λ (l : List ListRead). cost (opened_state (drill_inputs 0 tree) l)) h.read
+
+  pub drill_start : costs.start s ≡ costs.start (drill_state large unread tree)
+  drill_start = drill_alike costs.start same.start
+
+  -- the opening, and then the script
+  pub drill_spent : (number : ℕ) (answer : Result Tree Status) (was mid now : ℕ) → answer ≡ Ok tree → mid ≤ was + costs.start (drill_state large unread tree) →
+      now ≤ mid + script_cost costs s (drill_script number) → now ≤ was + drill_cost costs number answer large unread
+  unfolding page_cost
+  drill_spent number answer was mid now is first rest =
+      let script : script_cost costs s (drill_script number) ≡ script_cost costs (drill_state large unread tree) (drill_script number) =
+      drill_alike (λ (x : State). script_cost costs x (drill_script number)) (λ x. script_bare costs same x (drill_script number)) in
+      let cost : drill_cost costs number answer large unread ≡ costs.start (drill_state large unread tree) + script_cost costs (drill_state large unread tree) (drill_script number) =
+      ap (λ (a : Result Tree Status). drill_cost costs number a large unread) is in
+      omega arith
+
+-- want of memory before the script
+pub drill_opening : (costs : Costs) (large : List Asked) (unread : List Written) (tree : Tree) (number : ℕ) (answer : Result Tree Status) (was now : ℕ) → answer ≡ Ok tree →
+    now ≤ was + costs.start (drill_state large unread tree) → now ≤ was + drill_cost costs number answer large unread
+unfolding page_cost
+drill_opening costs large unread tree number answer was now is first =
+    let cost : drill_cost costs number answer large unread ≡ costs.start (drill_state large unread tree) + script_cost costs (drill_state large unread tree) (drill_script number) =
+    ap (λ (a : Result Tree Status). drill_cost costs number a large unread) is in
+    omega arith

@@ -71,7 +71,6 @@ module _ (env : List (List ℕ)) (large : List Asked) (unread : List Written) (s
       ∷ steps_texts brief (record { page = record { tree = inputs.tree; path = inputs.page.path }; filters = active_among (entries_of read.lists) inputs.page (rules_in from.suffixes) }) (without_mark inputs.script))) (sym e)
       ∙ sym (apply_unnumbered brief inputs read.lists) ∙ ap (λ all. apply_report brief inputs all) lists
 
-
 -- the line of a drill, of the page with its active filters
 pub drill_is : (large : List Asked) (unread : List Written) (tree : Tree) (s : State) → IsDrillState large unread tree s → (number : ℕ) (brief : Bool) →
     (let counts = counts_of number (drilled number s) in drill_text counts.number counts.nodes counts.steps counts.hidden counts.taken brief ∷ [])

@@ -1,5 +1,5 @@
 -- What a command costs, counted in any way: the opening of its page, and all that follows of the script.
-use Rattle.std.specs.Prelude.{ℕ, ◌+◌, Bool, true, false, List, [], ◌∷◌, Option, Some, None, Result, Ok, Err}
+use Rattle.std.specs.Prelude.{ℕ, ◌+◌, List, [], ◌∷◌, Option, Some, None, Result, Ok, Err}
 use Rattle.cos_source.specs.Mark.{without_mark}
 use Rattle.cos_patterns.specs.declared.written.Asked.{Asked}
 use Rattle.cos_patterns.specs.declared.written.Written.{Written}
@@ -14,8 +14,12 @@ use Rattle.command_inputs.specs.declared.inputs.ApplyInputs.{ApplyInputs}
 use Rattle.command_inputs.specs.declared.status.Status.{Status}
 use Rattle.command_inputs.specs.Due.{Files}
 use Rattle.command_inputs.specs.Inputs.{apply_inputs, tree_of_source}
-use Rattle.command_meaning.specs.Generator.{drill_list, drill_page}
+use Rattle.command_meaning.specs.Generator.{drill_list, drill_page, drill_script}
 use Rattle.command_meaning.specs.Report.{drill_inputs, lists_from, opened_state}
+
+-- the page of a drill with its filters, under what a maker refused
+abbrev pub drill_state : List Asked → List Written → Tree → State
+drill_state large unread tree = opened_state (drill_inputs 0 tree) (lists_from [] large unread 1 (drill_list ∷ []))
 
 module _ (costs : Costs) where
   -- a page with its filters, and a script
@@ -28,10 +32,9 @@ module _ (costs : Costs) where
       page_cost (opened_state inputs (lists_from words.env large unread 1 inputs.sources.lists)) (without_mark inputs.script)
   apply_cost words (Err status) large unread = 0
 
-  -- the page of a drill of this size
+  -- the page of a drill of this size, and its script
   abbrev pub drill_cost : ℕ → Result Tree Status → List Asked → List Written → ℕ
-  drill_cost number (Ok tree) large unread =
-      page_cost (opened_state (drill_inputs number tree) (lists_from [] large unread 1 (drill_list ∷ []))) (drill_inputs number tree).script
+  drill_cost number (Ok tree) large unread = page_cost (drill_state large unread tree) (drill_script number)
   drill_cost number (Err status) large unread = 0
 
   -- a command over files; lists alone cost nothing
@@ -44,13 +47,3 @@ module _ (costs : Costs) where
   unfoldable pub words_cost : Option Command → Files → List Asked → List Written → ℕ
   words_cost None files large unread = 0
   words_cost (Some words) files large unread = command_cost words files large unread
-
--- the command makes its files for a size
-abbrev pub is_drill : Command → Bool
-is_drill (command.Apply words) = false
-is_drill (command.Lists words) = false
-is_drill (command.Drill words) = true
-
-abbrev pub says_drill : Option Command → Bool
-says_drill None = false
-says_drill (Some words) = is_drill words

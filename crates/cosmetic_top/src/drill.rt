@@ -11,6 +11,9 @@ ghost use Rattle.command_inputs.specs.Reads.{IsDue, IsPageError};
 ghost use Rattle.command_meaning.specs.Generator.{drill_list, drill_page, drill_script};
 ghost use Rattle.command_meaning.specs.Output.{texts_due};
 ghost use Rattle.command_meaning.specs.Report.{drill_address};
+ghost use Rattle.remove_rounds.specs.Costs.{questions, single_tests};
+ghost use Rattle.page_steps.specs.Costs.{script_cost};
+ghost use Rattle.cosmetic_top.specs.Costs.{drill_cost, drill_state};
 ghost use Rattle.cosmetic_top.specs.Reports.{IsDrillState, counts_of, drilled, state_of};
 ghost use Rattle.cosmetic_top.specs.Runs.{RunsAlone};
 
@@ -47,6 +50,10 @@ pub(crate) fn drill<O: Sink, M: Maker, L: Ledger, P: Ledger>(
     ensures runs { RunsAlone O.tells O.written O.faults out.old out.new
         (M.large maker.new) (M.unread maker.new) (texts_due (DrillCommand words.now)) result }
     ensures other { IsErrOf result (Refused AddressTooLarge) → ⊥ }
+    ensures checks { checks.new ≤ checks.old + drill_cost questions words.now.number
+        (tree_of_source (drill_page words.now.number)) (M.large maker.new) (M.unread maker.new) }
+    ensures parts { parts.new ≤ parts.old + drill_cost single_tests words.now.number
+        (tree_of_source (drill_page words.now.number)) (M.large maker.new) (M.unread maker.new) }
 {
     let tree = made_page(alloc, words.number)?;
     let engine = opened(alloc, tree, maker, checks, parts)?;
@@ -77,7 +84,9 @@ fn opened<M: Maker, L: Ledger, P: Ledger>(
 ) -> Result<Engine, AllocError>
     requires large { M.large maker.old ≡ [] }
     requires unread { M.unread maker.old ≡ [] }
-    ensures { IfOk result (IsDrillState (M.large maker.new) (M.unread maker.new) tree) }
+    ensures state { IfOk result (IsDrillState (M.large maker.new) (M.unread maker.new) tree) }
+    ensures checks { checks.new ≤ checks.old + questions.start (drill_state (M.large maker.new) (M.unread maker.new) tree) }
+    ensures parts { parts.new ≤ parts.old + single_tests.start (drill_state (M.large maker.new) (M.unread maker.new) tree) }
 {
     let sources = drill_sources(alloc)?;
     let read = read_sources(alloc, &Names::new(alloc), &sources, maker)?;
@@ -121,7 +130,9 @@ fn drill_engine<L: Ledger, P: Ledger>(
 ) -> Result<Engine, AllocError>
     requires proper { All (λ list. All (IsProperEntry read.table.patterns) list.entries) read.lists }
     requires within { length (entries_of read.lists) < 2 ^ 32 }
-    ensures { IfOk result (λ engine. engine ≡ state_of drill_address tree read) }
+    ensures engine { IfOk result (λ engine. engine ≡ state_of drill_address tree read) }
+    ensures checks { checks.new ≤ checks.old + questions.start (state_of drill_address tree read) }
+    ensures parts { parts.new ≤ parts.old + single_tests.start (state_of drill_address tree read) }
 {
     let page = drill_address(alloc)?;
     let SourcesRead {
@@ -132,7 +143,14 @@ fn drill_engine<L: Ledger, P: Ledger>(
     } = read;
     let active = active_filters(alloc, lists, &page, &rules, &table)?;
     let Page { path, .. } = page;
-    Engine::start(alloc, PageState { tree, path }, table, active, checks, parts)
+    Engine::start(
+        alloc,
+        PageState { tree, path },
+        table,
+        active,
+        checks,
+        parts,
+    )
 }
 
 // What the drill comes to.
@@ -144,7 +162,9 @@ fn counted<L: Ledger, P: Ledger>(
     parts: &mut Steps<P>,
 ) -> Result<DrillCounts, AllocError>
     requires numbers { engine.page.tree.next ≤ 200000000 }
-    ensures { IfOk result (λ counts. counts ≡ counts_of number (drilled number engine)) }
+    ensures counts { IfOk result (λ counts. counts ≡ counts_of number (drilled number engine)) }
+    ensures checks { checks.new ≤ checks.old + script_cost questions engine (drill_script number) }
+    ensures parts { parts.new ≤ parts.old + script_cost single_tests engine (drill_script number) }
 {
     let (behind, taken, steps) = followed(alloc, number, engine, checks, parts)?;
     told(alloc, number, &behind, taken, steps)
@@ -161,6 +181,8 @@ fn followed<L: Ledger, P: Ledger>(
     requires numbers { engine.page.tree.next ≤ 200000000 }
     ensures end { IfOk result (λ done. record { state = done.0; taken = done.1 } ≡ drilled number engine) }
     ensures steps { IfOk result (λ done. done.2 ≡ length (numbered 1 (lines_of (drill_script number)))) }
+    ensures checks { checks.new ≤ checks.old + script_cost questions engine (drill_script number) }
+    ensures parts { parts.new ≤ parts.old + script_cost single_tests engine (drill_script number) }
 {
     let text = drill_script(alloc, number)?;
     let script = text.as_bytes();

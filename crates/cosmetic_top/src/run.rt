@@ -6,7 +6,7 @@ ghost use Rattle.command_words.specs.Commands.{command_of};
 ghost use Rattle.command_inputs.specs.Reads.{is_failure};
 ghost use Rattle.command_meaning.specs.Output.{command_due, due, output_of, texts_due, texts_of};
 ghost use Rattle.remove_rounds.specs.Costs.{questions, single_tests};
-ghost use Rattle.cosmetic_top.specs.Costs.{command_cost, is_drill, says_drill, words_cost};
+ghost use Rattle.cosmetic_top.specs.Costs.{command_cost, words_cost};
 ghost use Rattle.cosmetic_top.specs.Statuses.{address_of, addresses_of, is_refusal};
 ghost use Rattle.cosmetic_top.specs.Runs.{AppendsWhole, RunsAs};
 ghost use Rattle.command_inputs.specs.declared.status.Status.TheVariants.{Refused};
@@ -78,11 +78,11 @@ pub fn run<S: Shelf, O: Sink, M: Maker, L: Ledger, P: Ledger>(
         (S.files shelf.old) (M.large maker.new) (M.unread maker.new)) }
     ensures silent { IsTrue (is_refusal result) → O.written out.new ≡ O.written out.old }
 
-    // No more is asked than the events of the page and its script allow, also where the run ends early: of `lists` nothing.
-    ensures checks { IsTrue (S.tells shelf.old) → says_drill (command_of (map string_bytes words.now)) ≡ false →
+    // No more is asked than the events of the page and its script allow, also where the run ends early; of `lists` nothing is.
+    ensures checks { IsTrue (S.tells shelf.old) →
         checks.new ≤ checks.old + words_cost questions (command_of (map string_bytes words.now))
         (S.files shelf.old) (M.large maker.new) (M.unread maker.new) }
-    ensures parts { IsTrue (S.tells shelf.old) → says_drill (command_of (map string_bytes words.now)) ≡ false →
+    ensures parts { IsTrue (S.tells shelf.old) →
         parts.new ≤ parts.old + words_cost single_tests (command_of (map string_bytes words.now))
         (S.files shelf.old) (M.large maker.new) (M.unread maker.new) }
 {
@@ -113,9 +113,9 @@ fn obey<S: Shelf, O: Sink, M: Maker, L: Ledger, P: Ledger>(
         (M.large maker.new) (M.unread maker.new) (texts_due command.now) result }
     ensures too_large { IsErrOf result (Refused AddressTooLarge) →
         M.large maker.new ≡ address_of command.now }
-    ensures checks { IsTrue (S.tells shelf.old) → is_drill command.now ≡ false → checks.new ≤ checks.old
+    ensures checks { IsTrue (S.tells shelf.old) → checks.new ≤ checks.old
         + command_cost questions command.now (S.files shelf.old) (M.large maker.new) (M.unread maker.new) }
-    ensures parts { IsTrue (S.tells shelf.old) → is_drill command.now ≡ false → parts.new ≤ parts.old
+    ensures parts { IsTrue (S.tells shelf.old) → parts.new ≤ parts.old
         + command_cost single_tests command.now (S.files shelf.old) (M.large maker.new) (M.unread maker.new) }
 {
     match command {

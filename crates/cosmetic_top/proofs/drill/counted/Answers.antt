@@ -4,5 +4,17 @@ use Rattle.cosmetic_top.specs.Reports.{counts_of}
 use Rattle.cosmetic_top.proofs.Parts.{if_ok_then}
 use Rattle.cosmetic_top.proofs.drill.counted.Goals as goal
 
-pub returns : goal.returns
-returns g c = if_ok_then c.told.result (λ (counts : DrillCounts) e. e ∙ ap (counts_of c.args.number) c.in_ok-behind.ensures.end) c.told.ensures
+pub returns-clause-counts : goal.returns-clause-counts
+returns-clause-counts g c = if_ok_then c.told.result (λ (counts : DrillCounts) e. e ∙ ap (counts_of c.args.number) c.in_ok-behind.ensures.end) c.told.ensures
+
+pub returns-in_err-behind-clause-checks : goal.returns-in_err-behind-clause-checks
+returns-in_err-behind-clause-checks g c = c.in_err-behind.ensures.checks
+
+pub returns-clause-checks : goal.returns-clause-checks
+returns-clause-checks g c = c.in_ok-behind.ensures.checks
+
+pub returns-in_err-behind-clause-parts : goal.returns-in_err-behind-clause-parts
+returns-in_err-behind-clause-parts g c = c.in_err-behind.ensures.parts
+
+pub returns-clause-parts : goal.returns-clause-parts
+returns-clause-parts g c = c.in_ok-behind.ensures.parts
