@@ -26,7 +26,6 @@ kind_name kind.MatchesProp = codes "MatchesProp"
 kind_name kind.AbpProperties = codes "AbpProperties"
 kind_name kind.RemoveAttr = codes "RemoveAttr"
 kind_name kind.RemoveClass = codes "RemoveClass"
-kind_name kind.NotYet = codes "NotYet"
 
 abbrev pub cause_name : Cause → List ℕ
 cause_name cause.LineTooLong = codes "LineTooLong"

@@ -29,7 +29,6 @@ pub fn kind_name(kind: Kind) -> &'static str
         Kind::AbpProperties => "AbpProperties",
         Kind::RemoveAttr => "RemoveAttr",
         Kind::RemoveClass => "RemoveClass",
-        Kind::NotYet => "NotYet",
     }
 }
 

@@ -41,8 +41,6 @@ pub enum Kind {
     RemoveAttr,
     /// `:remove-class(..)`.
     RemoveClass,
-    /// A form that isn't built yet.
-    NotYet,
 }
 
 /// What makes a text malformed.
