@@ -1,5 +1,5 @@
 -- Arguments as they are read: their patterns have the number 0, and flags below 8.
-use Rattle.std.proofs.Common.{◌≡◌, ℕ, ◌+◌, ◌<◌, Bool, true, false, ◌&&◌, eqb, List, [], ◌∷◌, ◌++◌, Option, Some, None, IfSome, is_some, option_map, option_and_then, slice_get, if◌then◌else◌, refl, sym, ap, ◌∙◌, arith}
+use Rattle.std.proofs.Common.{◌≡◌, ℕ, ◌+◌, ◌<◌, ◌≤◌, Bool, true, false, ◌&&◌, eqb, List, [], ◌∷◌, ◌++◌, Option, Some, None, IfSome, is_some, option_map, option_and_then, slice_get, if◌then◌else◌, refl, sym, ap, ◌∙◌, arith}
 use Rattle.std.specs.Prelude.{unwrap_or}
 use Rattle.std.proofs.lemmas.Bool.{both_ways, and_from, lt-ltb}
 use Rattle.cos_source.specs.Spaces.{trimmed}
@@ -35,13 +35,22 @@ chosen_some P false a b h g = g
 
 -- ---- what is asked
 
-abbrev pub AreLow : List Ask → Type 0
-AreLow [] = Unit {0}
-AreLow (a ∷ asks) = (a.flags < 8) × AreLow asks
+-- the flags are few, and the place is by a limit
+abbrev pub AreLow : ℕ → List Ask → Type 0
+AreLow limit [] = Unit {0}
+AreLow limit (a ∷ asks) = (a.flags < 8) × (a.at ≤ limit) × AreLow limit asks
 
-pub low_joined : (first others : List Ask) → AreLow first → AreLow others → AreLow (first ++ others)
-low_joined [] others h g = g
-low_joined (a ∷ first) others h g = (h.0, low_joined first others h.1 g)
+pub low_joined : (limit : ℕ) (first others : List Ask) → AreLow limit first → AreLow limit others → AreLow limit (first ++ others)
+low_joined limit [] others h g = g
+low_joined limit (a ∷ first) others h g = (h.0, h.1, low_joined limit first others h.2 g)
+
+pub none_first : (first others : List Ask) → first ++ others ≡ [] → first ≡ []
+none_first [] others none = refl
+none_first (a ∷ first) others none = absurd (let e : a ∷ (first ++ others) ≡ [] = none in cc)
+
+pub none_others : (first others : List Ask) → first ++ others ≡ [] → others ≡ []
+none_others [] others none = none
+none_others (a ∷ first) others none = absurd (let e : a ∷ (first ++ others) ≡ [] = none in cc)
 
 -- ---- arguments
 
@@ -99,13 +108,13 @@ pair_read argument =
     bound_some IsArg IsPair (sought (text_argument s.front)) _ (sought_read s.front) (λ n h.
     bound_some IsGiven IsPair (value_part s.rest) _ (value_read s.rest) (λ v g. record { name = lower_read n h; value = g })))
 
-pub ask_low : (at : ℕ) (arg : Arg) → IsArg arg → AreLow (ask at arg)
-ask_low at (Literal text) h = tt
-ask_low at (Pattern body flags number) h = (h.0, tt)
+pub ask_low : (limit at : ℕ) → at ≤ limit → (arg : Arg) → IsArg arg → AreLow limit (ask at arg)
+ask_low limit at within (Literal text) h = tt
+ask_low limit at within (Pattern body flags number) h = (h.0, within, tt)
 
-pub ask_each_low : (at : ℕ) (o : Option Arg) → IsGiven o → AreLow (ask_each at o)
-ask_each_low at None h = tt
-ask_each_low at (Some arg) h = ask_low at arg h
+pub ask_each_low : (limit at : ℕ) → at ≤ limit → (o : Option Arg) → IsGiven o → AreLow limit (ask_each at o)
+ask_each_low limit at within None h = tt
+ask_each_low limit at within (Some arg) h = ask_low limit at within arg h
 
 -- ---- numbers
 
@@ -130,6 +139,23 @@ module _ (patterns : List Written) where
   pub given_bare : (o : Option Arg) → IsGiven o → option_map unnumbered_arg (option_map (numbered_arg patterns) o) ≡ o
   given_bare None h = refl
   given_bare (Some arg) h = ap (λ (a : Arg). Some a) (arg_bare arg h)
+
+  -- numbers are given once, and none where nothing is asked for
+  pub arg_again : (arg : Arg) → numbered_arg patterns (numbered_arg patterns arg) ≡ numbered_arg patterns arg
+  arg_again (Literal text) = refl
+  arg_again (Pattern body flags number) = refl
+
+  pub given_again : (o : Option Arg) → option_map (numbered_arg patterns) (option_map (numbered_arg patterns) o) ≡ option_map (numbered_arg patterns) o
+  given_again None = refl
+  given_again (Some arg) = ap (λ (a : Arg). Some a) (arg_again arg)
+
+  pub arg_unasked : (at : ℕ) (arg : Arg) → ask at arg ≡ [] → numbered_arg patterns arg ≡ arg
+  arg_unasked at (Literal text) none = refl
+  arg_unasked at (Pattern body flags number) none = absurd (let e : record { at = at; body = body; flags = flags } ∷ [] ≡ [] = none in cc)
+
+  pub given_unasked : (at : ℕ) (o : Option Arg) → ask_each at o ≡ [] → option_map (numbered_arg patterns) o ≡ o
+  given_unasked at None none = refl
+  given_unasked at (Some arg) none = ap (λ (a : Arg). Some a) (arg_unasked at arg none)
 
   number_held : (body : Bytes) (flags : ℕ) (place : Option ℕ) → place_of (written body flags) patterns ≡ place → flags < 8
       → is_in (written body flags) patterns ≡ true → stands_for (slice_get patterns (number_in patterns body flags)) (written body flags) ≡ true

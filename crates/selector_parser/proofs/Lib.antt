@@ -1,10 +1,7 @@
 pub mod Args
-pub mod Finds
 pub mod Layers
-pub mod Numbers
 pub mod Places
 pub mod Puts
 pub mod Readings
 pub mod Stages
 pub mod Walk
-pub mod Unasked

@@ -1,5 +1,5 @@
 -- The place in an answer of the reader of selectors is within its text.
-use Rattle.std.proofs.Common.{◌≡◌, ℕ, ◌≤◌, List, length, Result, Ok, Err, subst, sym, arith}
+use Rattle.std.proofs.Common.{◌≡◌, ℕ, ◌≤◌, false, List, [], length, Result, Ok, Err, subst, sym, arith}
 use Rattle.cos_patterns.specs.declared.written.Asked.{Asked}
 use Rattle.cos_patterns.specs.declared.written.Written.{Written}
 use Rattle.selector_spelling.specs.declared.finding.Finding.{Finding}
@@ -11,9 +11,9 @@ use Rattle.selector_parser.specs.declared.read.Read.{Read}
 use Rattle.selector_parser.specs.declared.read.Read.TheVariants.{Filter, SetAside, Malformed}
 use Rattle.selector_parser.specs.Answers.{answer_by}
 use Rattle.selector_parser.specs.Readings.{PlaceBy, reading, read_by, unnumbered_read}
-use Rattle.selector_parser.proofs.Finds.{By, ChainsBy, text_by}
+use Rattle.selector_parser.proofs.Walk.{By, IsChains, text_read}
 
-reading_by : (n : ℕ) (r : Result Chains Finding) → By n (ChainsBy n) r → PlaceBy n (reading r)
+reading_by : (n : ℕ) (r : Result Chains Finding) → By [] n (IsChains [] n false) r → PlaceBy n (reading r)
 reading_by n (Ok l) h = tt
 reading_by n (Err (finding.SetAside kind)) h = tt
 reading_by n (Err (finding.Malformed cause at)) h = h
@@ -25,7 +25,7 @@ numbered_by n (Malformed cause at) h = h
 
 pub place_by : (n : ℕ) (large : List Asked) (unread : List Written) (text : Bytes) (read : Read) → unnumbered_read read ≡ read_by large unread text → length text ≤ n → PlaceBy n read
 place_by n large unread text read e h =
-    numbered_by n read (subst (PlaceBy n) (sym e) (reading_by n (read_text (answer_by large unread) text) (text_by n (answer_by large unread) text h)))
+    numbered_by n read (subst (PlaceBy n) (sym e) (reading_by n (read_text (answer_by large unread) text) (text_read [] n (answer_by large unread) text h)))
 
 -- a place by one limit is one by each greater limit
 pub place_less : (limit n : ℕ) (read : Read) → n ≤ limit → PlaceBy n read → PlaceBy limit read

@@ -1,5 +1,5 @@
 -- What a text that is read gives: its patterns with flags below 8, and a selector that is proper once it has its numbers.
-use Rattle.std.proofs.Common.{◌≡◌, ◌<◌, true, false, ◌&&◌, List, [], ◌∷◌, map, All, Result, Ok, IfOk, sym, subst, ap₂, refl, ◌∙◌}
+use Rattle.std.proofs.Common.{◌≡◌, ℕ, ◌<◌, true, false, ◌&&◌, List, [], ◌∷◌, map, All, length, Result, Ok, arith, sym, subst, ap₂, refl, ◌∙◌}
 use Rattle.std.specs.List.{list_all}
 use Rattle.std.proofs.lemmas.List.Elements.{All-nil, All-cons, All-head, All-tail}
 use Rattle.std.proofs.lemmas.List.Folds.{list_all-map}
@@ -16,16 +16,15 @@ use Rattle.selector_spelling.specs.Bytes.{Bytes}
 use Rattle.selector_spelling.specs.Texts.{selector_of}
 use Rattle.selector_parser.specs.Numbered.{numbered}
 use Rattle.selector_parser.proofs.Args.{AreLow, AreIn}
-use Rattle.selector_parser.proofs.Numbers.{same_chains}
-use Rattle.selector_parser.proofs.Unasked.{same_chains as unasked_chains}
-use Rattle.selector_parser.proofs.Walk.{IsChains, text_read}
+use Rattle.selector_parser.proofs.Walk.{By, IsChains, pieces_of}
 
-read_chains : (patterns : List Written) (text : Bytes) (l : Chains) → selector_of text ≡ Ok l → IsChains patterns false l
-read_chains patterns text l is = subst (λ (r : Result Chains Finding). IfOk r (IsChains patterns false)) is (text_read patterns text)
+read_chains : (patterns : List Written) (text : Bytes) (l : Chains) → selector_of text ≡ Ok l → IsChains patterns (length text) false l
+read_chains patterns text l is =
+    subst (λ (r : Result Chains Finding). By patterns (length text) (IsChains patterns (length text) false) r) is (pieces_of patterns (length text) text (omega arith))
 
-all_low : (asks : List Ask) → AreLow asks → All (λ ask. ask.flags < 8) asks
-all_low [] h = All-nil (λ (ask : Ask). ask.flags < 8)
-all_low (a ∷ asks) h = All-cons (λ (ask : Ask). ask.flags < 8) a asks h.0 (all_low asks h.1)
+all_low : (limit : ℕ) (asks : List Ask) → AreLow limit asks → All (λ ask. ask.flags < 8) asks
+all_low limit [] h = All-nil (λ (ask : Ask). ask.flags < 8)
+all_low limit (a ∷ asks) h = All-cons (λ (ask : Ask). ask.flags < 8) a asks h.0 (all_low limit asks h.2)
 
 all_in : (patterns : List Written) (asks : List Ask) → All (λ ask. is_in (written ask.body ask.flags) patterns ≡ true) asks → AreIn patterns asks
 all_in patterns [] h = tt
@@ -40,7 +39,7 @@ proper_from patterns (steps ∷ l) = ap₂ ◌&&◌ (list_all-map (λ b. b) (is_
 
 -- the flags of a pattern are a sum of 1, 2 and 4
 pub read_flags : (text : Bytes) (l : Chains) → selector_of text ≡ Ok l → All (λ ask. ask.flags < 8) l.notes.asks
-read_flags text l is = all_low l.notes.asks (read_chains [] text l is).low
+read_flags text l is = all_low (length text) l.notes.asks (read_chains [] text l is).low
 
 -- without its numbers the selector is what was read
 pub read_unnumbered : (patterns : List Written) (text : Bytes) (l : Chains) → selector_of text ≡ Ok l → unnumbered (numbered patterns l.chains) ≡ l.chains
@@ -54,8 +53,7 @@ read_proper patterns text l is asked =
 
 -- where no pattern is asked for, numbers change nothing
 pub read_unasked : (patterns : List Written) (text : Bytes) (l : Chains) → selector_of text ≡ Ok l → l.notes.asks ≡ [] → numbered patterns l.chains ≡ l.chains
-read_unasked patterns text l is none =
-    unasked_chains patterns l.chains ((read_chains [] text l is).held (subst (λ (asks : List Ask). AreIn [] asks) (sym none) tt))
+read_unasked patterns text l is none = (read_chains patterns text l is).unasked none
 
 -- each `:upward(n)` leads at least one element up
 pub read_degrees : (patterns : List Written) (text : Bytes) (l : Chains) → selector_of text ≡ Ok l → have_degrees (numbered patterns l.chains) ≡ true
@@ -63,5 +61,5 @@ unfolding have_degrees
 read_degrees patterns text l is = (read_chains patterns text l is).degrees
 
 -- numbers are given once
-pub numbered_again : (patterns : List Written) (s : List (List Step)) → numbered patterns (numbered patterns s) ≡ numbered patterns s
-numbered_again patterns s = same_chains patterns s
+pub numbered_again : (patterns : List Written) (text : Bytes) (l : Chains) → selector_of text ≡ Ok l → numbered patterns (numbered patterns l.chains) ≡ numbered patterns l.chains
+numbered_again patterns text l is = (read_chains patterns text l is).again

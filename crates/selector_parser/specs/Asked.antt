@@ -1,5 +1,5 @@
 -- Which patterns a maker is asked for as a text is read.
-use Rattle.std.specs.Prelude.{◌≡◌, Bool, false, List, [], ◌∷◌, Result, Ok, Err, IsTrue, if◌then◌else◌}
+use Rattle.std.specs.Prelude.{◌≡◌, false, List, [], ◌∷◌, Result, Ok, Err, IsTrue, if◌then◌else◌}
 use Rattle.std.specs.Bool.{MatchBool}
 use Rattle.cos_patterns.specs.declared.written.Asked.{Asked}
 use Rattle.cos_patterns.specs.declared.written.Asked.TheVariants.{Pattern}

@@ -19,8 +19,6 @@ use Rattle.selector_spelling.specs.Pieces.{◌>>=◌, nothing, one, both, pieces
 use Rattle.selector_spelling.specs.Texts.{place_of, chain}
 use Rattle.selector_round_trip.specs.Balanced.{step_is_balanced, are_balanced}
 use Rattle.selector_round_trip.proofs.Scanned.{IsSound}
-use Rattle.selector_spelling.specs.Scan.{bare}
-use Rattle.selector_round_trip.proofs.Fine.{fine}
 use Rattle.selector_round_trip.proofs.Seen.{seen, both-same, reading_text, both_text, steps_text, move_text, removes_text}
 use Rattle.selector_round_trip.proofs.Operators.{ends_piece}
 use Rattle.selector_round_trip.proofs.Pieces.{IsSelector, Starts}
@@ -57,7 +55,7 @@ no_items [] h = refl
 no_items (i ∷ others) h = absurd (let w : shape i ∷ map shape others ≡ [] = h in cc)
 
 module _ (inner : Bool → ℕ → Bytes → Result Chains Finding) (is_nested is_several : Bool) (k : ℕ)
-    (good : (in_has : Bool) (place : ℕ) (text : Bytes) (l : Chains) → inner in_has place text ≡ Ok l → fine bare text ≡ true → are_balanced l.chains ≡ true → IsSelector inner (k + 1) in_has l) where
+    (good : (in_has : Bool) (place : ℕ) (text : Bytes) (l : Chains) → inner in_has place text ≡ Ok l → are_balanced l.chains ≡ true → IsSelector inner (k + 1) in_has l) where
   abbrev setting : Bool → Setting
   setting last = record { nested = is_nested; several = is_several; last = last }
 
@@ -178,14 +176,14 @@ module _ (inner : Bool → ℕ → Bytes → Result Chains Finding) (is_nested i
   }
 
   -- the chain behind its first item, in two parts
-  line_good : (place : ℕ) (text : Bytes) (more : List Item) (r : Reading) → is_empty text ≡ false → fine bare text ≡ true → read_chain (compound place text ∷ more) ≡ Ok r → list_all step_is_balanced r.steps ≡ true
+  line_good : (place : ℕ) (text : Bytes) (more : List Item) (r : Reading) → is_empty text ≡ false → read_chain (compound place text ∷ more) ≡ Ok r → list_all step_is_balanced r.steps ≡ true
       → ((o : Reading) → read_chain more ≡ Ok o → list_all step_is_balanced o.steps ≡ true → IsLinks more o) → IsLine r
-  line_good place text more r some sane h balanced rest =
+  line_good place text more r some h balanced rest =
       let x = bound (pieces inner (setting (is_empty more)) true place 0 text) (λ c. read_chain more >>= λ o. Ok (both c o)) r h in
       let y = bound (read_chain more) (λ o. Ok (both x.value o)) r x.gives in
       let e : both x.value y.value ≡ r = ok_same (both x.value y.value) r y.gives in
       let q = balanced_parts x.value y.value r e balanced in
-      subst IsLine e (line_from place text more x.value y.value (compound_good inner (setting (is_empty more)) k good place text x.value some x.is sane q.0) (rest y.value y.is q.1))
+      subst IsLine e (line_from place text more x.value y.value (compound_good inner (setting (is_empty more)) k good place text x.value some x.is q.0) (rest y.value y.is q.1))
 
   links_good : (more : List Item) (r : Reading) → IsRest more → read_chain more ≡ Ok r → list_all step_is_balanced r.steps ≡ true → IsLinks more r
   links_good [] r shaped h balanced = subst (IsLinks []) (ok_same nothing r h) nothing_links
@@ -198,14 +196,14 @@ module _ (inner : Bool → ℕ → Bytes → Result Chains Finding) (is_nested i
       let e : both first y.value ≡ r = ok_same (both first y.value) r y.gives in
       let q = balanced_parts first y.value r e balanced in
       subst (IsLinks (combinator b ∷ compound place text ∷ more)) e
-      (link_from b (compound place text) more y.value (line_good place text more y.value shaped.0 shaped.1 y.is q.1 (λ o is kept. links_good more o shaped.2 is kept)))
+      (link_from b (compound place text) more y.value (line_good place text more y.value shaped.0 y.is q.1 (λ o is kept. links_good more o shaped.1 is kept)))
   links_good (compound place text ∷ more) r shaped h balanced = absurd shaped
   links_good (missing place ∷ more) r shaped h balanced = absurd shaped
 
   first_good : (more : List Item) (r : Reading) → IsFirst more → read_chain more ≡ Ok r → list_all step_is_balanced r.steps ≡ true → IsLine r
   first_good [] r shaped h balanced = absurd shaped
   first_good (combinator b ∷ more) r shaped h balanced = absurd shaped
-  first_good (compound place text ∷ more) r shaped h balanced = line_good place text more r shaped.0 shaped.1 h balanced (λ o is kept. links_good more o shaped.2 is kept)
+  first_good (compound place text ∷ more) r shaped h balanced = line_good place text more r shaped.0 h balanced (λ o is kept. links_good more o shaped.1 is kept)
   first_good (missing place ∷ more) r shaped h balanced = absurd (let w : Err (Malformed cause.EmptyPart place) ≡ Ok r = h in cc)
 
   -- ---- chains, in `:has` and elsewhere
@@ -272,9 +270,9 @@ module _ (inner : Bool → ℕ → Bytes → Result Chains Finding) (is_nested i
       subst (IsChain true) e (led_good b y.value (first_good more y.value shaped y.is q.1))
 
   -- what is read as a chain is read again from its canonical text
-  pub chain_good : (in_has : Bool) (p : Part) (r : Reading) → fine bare p.text ≡ true → read_chain (items_of in_has p) ≡ Ok r → list_all step_is_balanced r.steps ≡ true → IsChain in_has r
-  chain_good true p r sane h balanced = has_good (items_of true p) r (chain_led p sane) h balanced
-  chain_good false p r sane h balanced = plain_good r (first_good (items_of false p) r (chain_first p sane) h balanced)
+  pub chain_good : (in_has : Bool) (p : Part) (r : Reading) → read_chain (items_of in_has p) ≡ Ok r → list_all step_is_balanced r.steps ≡ true → IsChain in_has r
+  chain_good true p r h balanced = has_good (items_of true p) r (chain_led p) h balanced
+  chain_good false p r h balanced = plain_good r (first_good (items_of false p) r (chain_first p) h balanced)
 
   pub chain_again : (in_has lead : Bool) (r : Reading) (c : IsChain in_has r) (p : Part) → p.text ≡ space_if lead c.text → ChainRead (items_of in_has p) r
   chain_again in_has lead r c p e = c.again (items_of in_has p) (chain-shapes in_has p ∙ ap (chain_shapes in_has) e ∙ c.cut lead)

@@ -12,8 +12,6 @@ use Rattle.selector_spelling.specs.Bytes.{Bytes, is_empty}
 use Rattle.selector_spelling.specs.Pieces.{◌>>=◌, nothing, both, Piece, piece, piece_length, then_others, pieces}
 use Rattle.selector_round_trip.specs.Balanced.{step_is_balanced, are_balanced}
 use Rattle.selector_round_trip.proofs.Scanned.{IsClosed, IsClosed-nil, IsClosed-append}
-use Rattle.selector_spelling.specs.Scan.{bare}
-use Rattle.selector_round_trip.proofs.Fine.{fine}
 use Rattle.selector_round_trip.proofs.Seen.{seen, both-same, reading_text, both_text}
 use Rattle.selector_round_trip.proofs.Operators.{is_end, ends_piece}
 use Rattle.selector_round_trip.proofs.Pieces.{IsSelector, IsPiece, begins_piece}
@@ -53,7 +51,7 @@ begun_ends [] rest h ends = ends
 begun_ends (b ∷ text) rest h ends = piece_ends b h
 
 module _ (inner : Bool → ℕ → Bytes → Result Chains Finding) (setting : Setting) (k : ℕ)
-    (good : (in_has : Bool) (place : ℕ) (text : Bytes) (l : Chains) → inner in_has place text ≡ Ok l → fine bare text ≡ true → are_balanced l.chains ≡ true → IsSelector inner (k + 1) in_has l) where
+    (good : (in_has : Bool) (place : ℕ) (text : Bytes) (l : Chains) → inner in_has place text ≡ Ok l → are_balanced l.chains ≡ true → IsSelector inner (k + 1) in_has l) where
   pub record PiecesRead (first : Bool) (place : ℕ) (r : Reading) : Type 0 where
     pub read : Reading
     pub is : pieces inner setting first place zero (reading_text r) ≡ Ok read
@@ -134,7 +132,7 @@ module _ (inner : Bool → ℕ → Bytes → Result Chains Finding) (setting : S
 
   behind_good : (first : Bool) (place b : ℕ) (text : Bytes) (p : Piece) (r : Reading) → OnPiece inner setting k good first (b ∷ text) (Ok p)
       → (others : Result Reading Finding) → pieces inner setting false (place + 1) (p.length - 1) text ≡ others → (others >>= λ c. Ok (both p.reading c)) ≡ Ok r
-      → ((c : Reading) → pieces inner setting false (place + 1) (p.length - 1) text ≡ Ok c → fine bare (drop (p.length - 1) text) ≡ true → list_all step_is_balanced c.steps ≡ true → ArePieces false c)
+      → ((c : Reading) → pieces inner setting false (place + 1) (p.length - 1) text ≡ Ok c → list_all step_is_balanced c.steps ≡ true → ArePieces false c)
       → list_all step_is_balanced r.steps ≡ true → SomePieces first r
   behind_good first place b text p r on (Err f) others is more balanced = absurd (let w : Err f ≡ Ok r = is in cc)
   behind_good first place b text p r on (Ok c) others is more balanced =
@@ -143,25 +141,25 @@ module _ (inner : Bool → ℕ → Bytes → Result Chains Finding) (setting : S
       sym (list_all-append step_is_balanced p.reading.steps c.steps) ∙ ap (λ (x : Reading). list_all step_is_balanced x.steps) e ∙ balanced in
       let q = and_parts (list_all step_is_balanced p.reading.steps) (list_all step_is_balanced c.steps) split in
       let g = on q.0 in
-      subst (SomePieces first) e (joined first p.reading c g.piece (more c others g.left q.1)
+      subst (SomePieces first) e (joined first p.reading c g.piece (more c others q.1)
       (λ (h : p.reading.notes.removes ≡ true). ok_same c nothing (sym others ∙ nothing_left false (place + 1) b p.length text (g.last h))) g.nested g.only)
 
   then_good : (first : Bool) (place b : ℕ) (text : Bytes) (p : Result Piece Finding) (r : Reading) → OnPiece inner setting k good first (b ∷ text) p
       → then_others p (pieces inner setting false (place + 1) (piece_length p - 1) text) ≡ Ok r
-      → ((c : Reading) → pieces inner setting false (place + 1) (piece_length p - 1) text ≡ Ok c → fine bare (drop (piece_length p - 1) text) ≡ true → list_all step_is_balanced c.steps ≡ true → ArePieces false c)
+      → ((c : Reading) → pieces inner setting false (place + 1) (piece_length p - 1) text ≡ Ok c → list_all step_is_balanced c.steps ≡ true → ArePieces false c)
       → list_all step_is_balanced r.steps ≡ true → SomePieces first r
   then_good first place b text (Err f) r on is more balanced = absurd (let w : Err f ≡ Ok r = is in cc)
   then_good first place b text (Ok p) r on is more balanced = behind_good first place b text p r on (pieces inner setting false (place + 1) (p.length - 1) text) refl is more balanced
 
-  pub pieces_good : (first : Bool) (place n : ℕ) (text : Bytes) (r : Reading) → pieces inner setting first place n text ≡ Ok r → fine bare (drop n text) ≡ true → list_all step_is_balanced r.steps ≡ true → ArePieces first r
-  pieces_good first place n [] r h sane balanced = subst (ArePieces first) (ok_same nothing r h) (none first)
-  pieces_good first place (suc n) (b ∷ text) r h sane balanced = pieces_good first (place + 1) n text r h sane balanced
-  pieces_good first place zero (b ∷ text) r h sane balanced =
+  pub pieces_good : (first : Bool) (place n : ℕ) (text : Bytes) (r : Reading) → pieces inner setting first place n text ≡ Ok r → list_all step_is_balanced r.steps ≡ true → ArePieces first r
+  pieces_good first place n [] r h balanced = subst (ArePieces first) (ok_same nothing r h) (none first)
+  pieces_good first place (suc n) (b ∷ text) r h balanced = pieces_good first (place + 1) n text r h balanced
+  pieces_good first place zero (b ∷ text) r h balanced =
       let p = piece inner setting first place b text in
-      (then_good first place b text p r (piece_good inner setting k good first place b text sane) h (λ c e f d. pieces_good false (place + 1) (piece_length p - 1) text c e f d) balanced).are
+      (then_good first place b text p r (piece_good inner setting k good first place b text) h (λ c e d. pieces_good false (place + 1) (piece_length p - 1) text c e d) balanced).are
 
-  pub compound_good : (place : ℕ) (text : Bytes) (r : Reading) → is_empty text ≡ false → pieces inner setting true place zero text ≡ Ok r → fine bare text ≡ true → list_all step_is_balanced r.steps ≡ true → SomePieces true r
-  compound_good place [] r some h sane balanced = absurd (both_ways true some refl)
-  compound_good place (b ∷ text) r some h sane balanced =
+  pub compound_good : (place : ℕ) (text : Bytes) (r : Reading) → is_empty text ≡ false → pieces inner setting true place zero text ≡ Ok r → list_all step_is_balanced r.steps ≡ true → SomePieces true r
+  compound_good place [] r some h balanced = absurd (both_ways true some refl)
+  compound_good place (b ∷ text) r some h balanced =
       let p = piece inner setting true place b text in
-      then_good true place b text p r (piece_good inner setting k good true place b text sane) h (λ c e f d. pieces_good false (place + 1) (piece_length p - 1) text c e f d) balanced
+      then_good true place b text p r (piece_good inner setting k good true place b text) h (λ c e d. pieces_good false (place + 1) (piece_length p - 1) text c e d) balanced

@@ -16,7 +16,6 @@ use Rattle.selector_spelling.specs.Texts.{Answer, found, bad_pattern, pattern_to
 use Rattle.selector_round_trip.specs.Balanced.{are_balanced}
 use Rattle.selector_round_trip.specs.RoundTrip.{Asked, IsReadAs, IsReadBack, AreTold, canonical_of}
 use Rattle.selector_round_trip.proofs.Scanned.{balanced, not_too_nested}
-use Rattle.selector_round_trip.proofs.Fine.{fine_balanced}
 use Rattle.selector_round_trip.proofs.Seen.{asked, SeenChains, removes_text}
 use Rattle.selector_round_trip.proofs.Pieces.{chains_text}
 use Rattle.selector_round_trip.proofs.Chains.{bound, ok_same}
@@ -92,7 +91,7 @@ module _ (answer : Bytes → ℕ → Answer) where
       let d = unrefused (first_refused answer c.value.notes.asks) c.value l c.gives in
       let read : selector_of text ≡ Ok l = c.is ∙ ap (λ (m : Chains). Ok m) d.1 in
       let patterns : first_refused answer l.notes.asks ≡ None = ap (λ (m : Chains). first_refused answer m.notes.asks) (sym d.1) ∙ d.0 in
-      read_as l balance patterns (whole_good (argument 16) 0 (argument_good 16 1 refl) false false 0 text l read (fine_balanced bare 0 0 text a.passes) balance)
+      read_as l balance patterns (whole_good (argument 16) 0 (argument_good 16 1 refl) false false 0 text l read balance)
 
 -- where the text is read, its canonical text is read as the same
 pub read_back : (text : Bytes) → IsReadBack text

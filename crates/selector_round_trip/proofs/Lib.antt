@@ -23,7 +23,4 @@ pub mod Chains
 pub mod Selectors
 pub mod Law
 pub mod Marks
-pub mod Fine
-pub mod Cutout
-pub mod FineParts
-pub mod PieceScan
+pub mod Closed

@@ -14,11 +14,11 @@ use Rattle.selector_spelling.specs.declared.reading.Chains.{Chains}
 use Rattle.selector_spelling.specs.declared.reading.Setting.{Setting}
 use Rattle.selector_spelling.specs.Bytes.{Bytes, begins_with, front, behind, is_empty, is_pseudo_byte, colon}
 use Rattle.selector_spelling.specs.Names.{begins_name}
-use Rattle.selector_spelling.specs.Scan.{Scan, is_selector, standing, bare, opens, step, within, behind_name, behind_colon}
+use Rattle.selector_spelling.specs.Scan.{Scan, is_selector, standing, bare, opens, step, within, is_closed, behind_name, behind_colon}
 use Rattle.selector_spelling.specs.Pieces.{◌>>=◌, operator_of, Piece, by_operator, with_argument, without_argument, pseudo_class, piece}
 use Rattle.selector_spelling.specs.declared.operator.Operator.{Operator}
 use Rattle.selector_spelling.specs.Pieces as spelled
-use Rattle.selector_round_trip.proofs.Scanned.{is_deep, over, over-append, is_other, is_sound, is_uncut, sound-append, uncut-append, IsSound, IsClosed, IsClosed-nil, IsClosed-append, IsKept, kept_sound, kept_uncut, sound-lift, uncut-lift, over-lift, lift}
+use Rattle.selector_round_trip.proofs.Scanned.{is_deep, over, over-append, is_other, is_sound, is_uncut, sound-append, uncut-append, IsSound, IsClosed, IsClosed-nil, IsClosed-append, IsKept, closed_by, kept_sound, kept_uncut, sound-lift, uncut-lift, over-lift, lift}
 use Rattle.selector_round_trip.proofs.NameScans.{is_calm, calm_closed}
 use Rattle.selector_round_trip.proofs.Classes.{apart}
 use Rattle.selector_round_trip.proofs.Names.{Ends}
@@ -256,6 +256,10 @@ behind_argument argument rest =
     let n : length argument + 1 ≡ length (argument ++ 41 ∷ []) = (omega (arith, length-append argument (41 ∷ []))) in
     ap (drop (length argument + 1)) e ∙ drop_at (argument ++ 41 ∷ []) rest (length argument + 1) (sym n)
 
+-- what stands in a bracket that is closed is read
+pub where_closed_is : {A : Type 0} (at : ℕ) (opened : Open) (text : Bytes) (read : Result A Finding) → is_closed (standing (opened ∷ [])) text ≡ true → spelled.where_closed at opened text read ≡ read
+where_closed_is at opened text read h = ap (λ (c : Bool). if c then read else spelled.bad cause.Unbalanced at) h
+
 module _ (inner : Bool → ℕ → Bytes → Result Chains Finding) (setting : Setting) (first : Bool) where
   abbrev op_piece : ℕ → ℕ → Bytes → Result Reading Finding → Result Piece Finding
   op_piece at from argument r = r >>= λ x. Ok (record { length = from - at + length argument + 1; reading = x })
@@ -276,6 +280,7 @@ module _ (inner : Bool → ℕ → Bytes → Result Chains Finding) (setting : S
       ∙ ap₂ (λ (x y : Bytes). if begins_name x then spelled.behind_name inner setting first at (str_to_ascii_lowercase x) (at + 1 + length x) y else spelled.bad cause.BadName at) f.0 f.1
       ∙ ap (λ (c : Bool). if c then spelled.behind_name inner setting first at (str_to_ascii_lowercase n) (at + 1 + length n) (40 ∷ text) else spelled.bad cause.BadName at) h.begins
       ∙ ap (λ (m : Bytes). with_argument inner setting first at m from text) h.lower
+      ∙ where_closed_is at (opens n text) text _ (closed_by (opens n text) 41 argument rest inside)
       ∙ ap (λ (a : Bytes). op_piece at from a (by_operator inner setting first (is_empty (drop (length a + 1) text)) at from a (operator_of n))) inside
       ∙ ap₂ (λ (t : Bytes) (q : Option Operator). op_piece at from argument (by_operator inner setting first (is_empty t) at from argument q)) left named
       ∙ ap (op_piece at from argument) read

@@ -5,9 +5,6 @@ use Rattle.std.specs.List.{list_all}
 use Rattle.std.specs.Char.{is_ascii_digit}
 use Rattle.std.specs.Str.{bytes_eq, str_to_ascii_lowercase}
 use Rattle.std.proofs.lemmas.Slice.Eq.{bytes_eq-Decides}
-use Rattle.selector_round_trip.proofs.Fine.{fine}
-use Rattle.selector_round_trip.proofs.Cutout.{is_pieces}
-use Rattle.selector_spelling.specs.Scan.{bare}
 use Rattle.std.proofs.lemmas.Bool.{or_cases, or_from, both_ways, and_from, or_right}
 use Rattle.cos_source.specs.Spaces.{is_space, before_text, without_first_spaces, without_last_spaces, trimmed}
 use Rattle.selector_tree.specs.declared.selector.Arg.{Arg}
@@ -29,7 +26,7 @@ use Rattle.selector_spelling.specs.declared.reading.Chains.{Chains}
 use Rattle.selector_spelling.specs.declared.reading.Setting.{Setting}
 use Rattle.selector_spelling.specs.Bytes.{Bytes, begins_with, front, behind, is_empty, is_number, is_pseudo_byte, is_one_of}
 use Rattle.selector_spelling.specs.Names.{name, begins_name}
-use Rattle.selector_spelling.specs.Scan.{standing, is_bare, opens, step, within, begins_number_argument}
+use Rattle.selector_spelling.specs.Scan.{standing, is_bare, opens, step, within, is_closed, begins_number_argument}
 use Rattle.selector_spelling.specs.Attributes.{attribute}
 use Rattle.selector_spelling.specs.Arguments.{Nth, degree, sought, Pair}
 use Rattle.selector_spelling.specs.Pieces.{◌>>=◌, or_bad, or_else, ask, ask_each, keep, operating, standard_of, procedural_of, aside_of, operator_of, nth_test, search_test, length_test, pair_test, watch_test, upward_step, selecting_test, Piece, by_operator, piece}
@@ -41,7 +38,7 @@ use Rattle.selector_spelling.specs.Pieces as spelled
 use Rattle.selector_round_trip.specs.RoundTrip.{Asked}
 use Rattle.selector_round_trip.specs.Balanced.{is_balanced, test_is_balanced, are_balanced}
 use Rattle.selector_round_trip.proofs.BalanceLaws.{balance-Is, balance-Not, balance-Has}
-use Rattle.selector_round_trip.proofs.Scanned.{over, over-append, is_sound, is_uncut, sound-append, uncut-append, is_other, IsSound, IsClosed, IsClosed-append, IsKept, IsKept-nil, within_argument, within_selector, kept_sound, kept_uncut}
+use Rattle.selector_round_trip.proofs.Scanned.{over, over-append, is_sound, is_uncut, sound-append, uncut-append, is_other, IsSound, IsClosed, IsClosed-append, IsKept, IsKept-nil, within_argument, within_selector, closed_by, kept_sound, kept_uncut}
 use Rattle.selector_round_trip.proofs.Classes.{apart}
 use Rattle.selector_round_trip.proofs.Names.{IsRead, begins_text, read_again, read_printed}
 use Rattle.selector_round_trip.proofs.NameScans.{calm_closed, name_closed}
@@ -51,7 +48,7 @@ use Rattle.selector_round_trip.proofs.Watched.{AreWatched, watched_again, watche
 use Rattle.selector_round_trip.proofs.Attributes.{IsAttr, attribute_again, attr_argument, attr_square}
 use Rattle.selector_round_trip.proofs.RawScan.{balanced_raw}
 use Rattle.selector_round_trip.proofs.Seen.{asked, seen, SeenChains, seen_chains, keep_text, reading_text, reading_keep}
-use Rattle.selector_round_trip.proofs.Operators.{ends_piece, end_ends, IsPseudo, operator_text, closes, operator_closed, selector_closed, plain_closed, operator_again, plain_again}
+use Rattle.selector_round_trip.proofs.Operators.{ends_piece, end_ends, IsPseudo, operator_text, closes, operator_closed, selector_closed, plain_closed, where_closed_is, operator_again, plain_again}
 
 -- ---- selector arguments
 
@@ -137,21 +134,12 @@ searches_path = record { n = codes "matches-path"; pseudo = pseudo (codes "match
 
 -- ---- what their brackets open
 
+-- the argument of an operator with a text is raw
 abbrev pub RightBracket : Open → Option Operator → Type 0
-RightBracket bracket None = Unit {0}
-RightBracket bracket (Some operator.Is) = bracket ≡ Selector
-RightBracket bracket (Some operator.Not) = bracket ≡ Selector
-RightBracket bracket (Some operator.Has) = bracket ≡ Selector
-RightBracket bracket (Some (operator.Nth from_end of_name)) = Unit {0}
 RightBracket bracket (Some operator.HasText) = bracket ≡ Raw
-RightBracket bracket (Some operator.MinText) = Unit {0}
 RightBracket bracket (Some operator.MatchesPath) = bracket ≡ Raw
 RightBracket bracket (Some operator.MatchesAttr) = bracket ≡ Raw
-RightBracket bracket (Some operator.WatchAttr) = Unit {0}
-RightBracket bracket (Some operator.Upward) = is_pieces bracket ≡ true
-RightBracket bracket (Some operator.Others) = Unit {0}
-RightBracket bracket (Some operator.Remove) = Unit {0}
-RightBracket bracket (Some (operator.Aside k)) = Unit {0}
+RightBracket bracket o = Unit {0}
 
 same_bytes : (P : Bytes → Type 0) (n a : Bytes) → P a → bytes_eq n a ≡ true → P n
 same_bytes P n a h e = subst P (sym ((bytes_eq-Decides n a).0 e)) h
@@ -167,10 +155,6 @@ right : (bracket : Open) (c : Bool) (x y : Option Operator) → (c ≡ true → 
 right bracket true x y h g = h refl
 right bracket false x y h g = g
 
-upward_bracket : (c : Bool) → is_pieces (if c then Selector else Round) ≡ true
-upward_bracket true = refl
-upward_bracket false = refl
-
 right_else : (bracket : Open) (x y : Option Operator) → RightBracket bracket x → RightBracket bracket y → RightBracket bracket (or_else x y)
 right_else bracket None y h g = g
 right_else bracket (Some o) y h g = h
@@ -183,20 +167,14 @@ module _ (n text : Bytes) where
   abbrev o : Open
   o = opens n text
 
-  abbrev selects : Bytes → Type 0
-  selects m = opens m text ≡ Selector
-
   abbrev raw : Bytes → Type 0
   raw m = opens m text ≡ Raw
 
-  abbrev climbs : Bytes → Type 0
-  climbs m = is_pieces (opens m text) ≡ true
-
   standard_right : RightBracket o (standard_of n)
   standard_right =
-      right o (is_one_of n (codes "is" ∷ codes "where" ∷ [])) _ _ (λ e. by_two selects n (codes "is") (codes "where") refl refl e)
-      (right o (bytes_eq n (codes "not")) _ _ (λ e. same_bytes selects n (codes "not") refl e)
-      (right o (is_one_of n (codes "has" ∷ codes "-abp-has" ∷ [])) _ _ (λ e. by_two selects n (codes "has") (codes "-abp-has") refl refl e)
+      right o (is_one_of n (codes "is" ∷ codes "where" ∷ [])) _ _ (λ e. tt)
+      (right o (bytes_eq n (codes "not")) _ _ (λ e. tt)
+      (right o (is_one_of n (codes "has" ∷ codes "-abp-has" ∷ [])) _ _ (λ e. tt)
       (right o (bytes_eq n (codes "nth-child")) _ _ (λ e. tt)
       (right o (bytes_eq n (codes "nth-last-child")) _ _ (λ e. tt)
       (right o (bytes_eq n (codes "nth-of-type")) _ _ (λ e. tt)
@@ -209,7 +187,7 @@ module _ (n text : Bytes) where
       (right o (bytes_eq n (codes "matches-path")) _ _ (λ e. same_bytes raw n (codes "matches-path") refl e)
       (right o (bytes_eq n (codes "matches-attr")) _ _ (λ e. same_bytes raw n (codes "matches-attr") refl e)
       (right o (bytes_eq n (codes "watch-attr")) _ _ (λ e. tt)
-      (right o (bytes_eq n (codes "upward")) _ _ (λ e. same_bytes climbs n (codes "upward") (upward_bracket (not (begins_number_argument (without_first_spaces text)))) e)
+      (right o (bytes_eq n (codes "upward")) _ _ (λ e. tt)
       (right o (bytes_eq n (codes "others")) _ _ (λ e. tt)
       (right o (bytes_eq n (codes "remove")) _ _ (λ e. tt) tt)))))))
 
@@ -294,7 +272,7 @@ no_degree text s =
 -- ---- readings of one piece
 
 module _ (inner : Bool → ℕ → Bytes → Result Chains Finding) (setting : Setting) (k : ℕ)
-    (good : (in_has : Bool) (place : ℕ) (text : Bytes) (l : Chains) → inner in_has place text ≡ Ok l → fine bare text ≡ true → are_balanced l.chains ≡ true → IsSelector inner (k + 1) in_has l) (first : Bool) where
+    (good : (in_has : Bool) (place : ℕ) (text : Bytes) (l : Chains) → inner in_has place text ≡ Ok l → are_balanced l.chains ≡ true → IsSelector inner (k + 1) in_has l) (first : Bool) where
   abbrev OnePiece : Reading → Type 0
   OnePiece r = IsPiece inner setting k first r
 
@@ -622,10 +600,13 @@ module _ (inner : Bool → ℕ → Bytes → Result Chains Finding) (setting : S
         closed = λ rest ends. square_closed argument rest (attr_square key op v i (93 ∷ rest));
         again = λ place rest ends last. (
             let e : (argument ++ 93 ∷ []) ++ rest ≡ argument ++ 93 ∷ rest = append_assoc argument (93 ∷ []) rest in
-            let w : within (standing (Square ∷ [])) ((argument ++ 93 ∷ []) ++ rest) ≡ argument = ap (within (standing (Square ∷ []))) e ∙ within_argument Square 93 argument rest refl (attr_square key op v i (93 ∷ rest)) refl in
+            let inside = within_argument Square 93 argument rest refl (attr_square key op v i (93 ∷ rest)) refl in
+            let w : within (standing (Square ∷ [])) ((argument ++ 93 ∷ []) ++ rest) ≡ argument = ap (within (standing (Square ∷ []))) e ∙ inside in
+            let closed : is_closed (standing (Square ∷ [])) ((argument ++ 93 ∷ []) ++ rest) ≡ true = ap (is_closed (standing (Square ∷ []))) e ∙ closed_by Square 93 argument rest inside in
             record {
               read = record { length = length argument + 2; reading = keep (test.Attr key op v i) };
-              is = ap (λ (a : Bytes). or_bad cause.BadAttribute place (attribute a) >>= λ t. Ok (record { length = length a + 2; reading = keep t })) w
+              is = where_closed_is place Square ((argument ++ 93 ∷ []) ++ rest) _ closed
+                  ∙ ap (λ (a : Bytes). or_bad cause.BadAttribute place (attribute a) >>= λ t. Ok (record { length = length a + 2; reading = keep t })) w
                   ∙ ap (λ (o : Option Test). or_bad cause.BadAttribute place o >>= λ t. Ok (record { length = length argument + 2; reading = keep t })) (attribute_again key op v i h);
               size = omega (arith, length-append argument (93 ∷ []));
               same = refl;

@@ -14,19 +14,16 @@ use Rattle.selector_spelling.specs.declared.finding.Cause.{Cause}
 use Rattle.selector_spelling.specs.declared.finding.Cause.TheVariants as cause
 use Rattle.selector_spelling.specs.declared.finding.Kind.TheVariants as kind
 use Rattle.selector_spelling.specs.declared.finding.Finding.{Finding}
-use Rattle.selector_spelling.specs.declared.open.Open.TheVariants.{Raw, Round, Square}
+use Rattle.selector_spelling.specs.declared.open.Open.TheVariants.{Raw, Square}
 use Rattle.selector_spelling.specs.declared.reading.Reading.{Reading}
 use Rattle.selector_spelling.specs.declared.reading.Chains.{Chains}
 use Rattle.selector_spelling.specs.declared.reading.Setting.{Setting}
 use Rattle.selector_spelling.specs.Bytes.{Bytes, begins_with, front, behind, is_empty, is_blank, is_number, is_pseudo_byte, colon}
 use Rattle.selector_spelling.specs.Names.{Taken, name, begins_name}
-use Rattle.selector_spelling.specs.Scan.{standing, bare, opens, within, is_wrong, step}
-use Rattle.selector_spelling.specs.Scan as scan
+use Rattle.selector_spelling.specs.Scan.{standing, opens, within, is_closed}
 use Rattle.selector_spelling.specs.declared.open.Open.{Open}
-use Rattle.selector_round_trip.proofs.Fine.{fine, raw_argument}
-use Rattle.selector_round_trip.proofs.Cutout.{is_pieces, selector_argument}
+use Rattle.selector_round_trip.proofs.Closed.{raw_argument}
 use Rattle.selector_round_trip.proofs.Marks.{marks, run, depth, search_balanced, pair_balanced, sought_same}
-use Rattle.selector_round_trip.proofs.PieceScan.{after, signed_after, tag_after, square_after, star_after, front_all, plain_after, bracket_fine, operator_after}
 use Rattle.selector_tree.specs.Canonical.{arg_text}
 use Rattle.selector_spelling.specs.Attributes.{attribute}
 use Rattle.selector_spelling.specs.Arguments.{nth, text_units, degree, text_argument, sought, attribute_pair, watched}
@@ -68,7 +65,7 @@ empty_nil [] h = refl
 empty_nil (b ∷ text) h = absurd (both_ways false refl h)
 
 module _ (inner : Bool → ℕ → Bytes → Result Chains Finding) (setting : Setting) (k : ℕ)
-    (good : (in_has : Bool) (place : ℕ) (text : Bytes) (l : Chains) → inner in_has place text ≡ Ok l → fine bare text ≡ true → are_balanced l.chains ≡ true → IsSelector inner (k + 1) in_has l) (first : Bool) where
+    (good : (in_has : Bool) (place : ℕ) (text : Bytes) (l : Chains) → inner in_has place text ≡ Ok l → are_balanced l.chains ≡ true → IsSelector inner (k + 1) in_has l) (first : Bool) where
   -- a reading of one piece; `ends` says that nothing stands behind it
   pub record GoodReading (ends : Bool) (r : Reading) : Type 0 where
     pub piece : IsPiece inner setting k first r
@@ -95,15 +92,15 @@ module _ (inner : Bool → ℕ → Bytes → Result Chains Finding) (setting : S
   hides : (ends : Bool) (r : Reading) → r.notes.removes ≡ false → IsPiece inner setting k first r → GoodReading ends r
   hides ends r h p = record { piece = p; nested = λ e. h; last = λ (e : r.notes.removes ≡ true). absurd (both_ways r.notes.removes h e); only = λ (e : r.notes.removes ≡ true). absurd (both_ways r.notes.removes h e) }
 
-  upward_good : (ends : Bool) (place from : ℕ) (argument : Bytes) → fine bare argument ≡ true → OnReading ends (spelled.upward inner place from argument)
-  upward_good ends place from argument sane =
+  upward_good : (ends : Bool) (place from : ℕ) (argument : Bytes) → OnReading ends (spelled.upward inner place from argument)
+  upward_good ends place from argument =
       on_cond ends (is_number (trimmed argument)) _ _
       (λ number. on_option ends cause.BadOperatorArgument place (degree (trimmed argument)) (λ n. Ok (upward_step n)) (λ n e balanced. (
       let d = degree_small (trimmed argument) n e in
       hides ends (upward_step n) refl (upward_piece inner setting k good first n d.0 d.1))))
       (λ other. on_bind ends (inner false from argument) (λ l. spelled.upward_to place l) (λ l e. on_cond ends l.notes.operates _ _ (λ operates. tt) (λ plain balanced. (
       let b : are_balanced l.chains ≡ true = sym (balance-UpwardTo l.chains) ∙ all_one (step.UpwardTo l.chains) balanced in
-      hides ends (upward_reading inner setting k good first l) (good false from argument l e sane b).hides (upward_to_piece inner setting k good first l plain (good false from argument l e sane b))))))
+      hides ends (upward_reading inner setting k good first l) (good false from argument l e b).hides (upward_to_piece inner setting k good first l plain (good false from argument l e b))))))
 
   others_good : (ends : Bool) (place : ℕ) (argument : Bytes) → OnReading ends (spelled.others setting place argument)
   others_good ends place argument =
@@ -126,11 +123,11 @@ module _ (inner : Bool → ℕ → Bytes → Result Chains Finding) (setting : S
 
   selecting_good : (ends : Bool) (from : ℕ) (argument : Bytes) (f : List (List Step) → Test) (in_has : Bool) (o : Operator) → Selecting f in_has o
       → ((last : Bool) (place there : ℕ) (text : Bytes) → by_operator inner setting first last place there text (Some o) ≡ (inner in_has there text >>= λ m. Ok (selecting_test f m)))
-      → fine bare argument ≡ true → OnReading ends (inner in_has from argument >>= λ l. Ok (selecting_test f l))
-  selecting_good ends from argument f in_has o s reads sane =
+      → OnReading ends (inner in_has from argument >>= λ l. Ok (selecting_test f l))
+  selecting_good ends from argument f in_has o s reads =
       on_bind ends (inner in_has from argument) (λ l. Ok (selecting_test f l)) (λ l e balanced. (
       let b : are_balanced l.chains ≡ true = sym (s.balance l.chains) ∙ all_keep (f l.chains) balanced in
-      let g = good in_has from argument l e sane b in
+      let g = good in_has from argument l e b in
       hides ends (selecting_test f l) g.hides (selecting_piece inner setting k good first f in_has o l s reads g)))
 
   searching_good : (ends : Bool) (place : ℕ) (argument : Bytes) (f : Arg → Test) (o : Operator) → Searching f o
@@ -140,27 +137,27 @@ module _ (inner : Bool → ℕ → Bytes → Result Chains Finding) (setting : S
       on_option ends cause.BadOperatorArgument place (sought (text_argument argument)) (λ a. Ok (search_test f place a)) (λ a e balanced. hides ends (search_test f place a) refl
       (searching_piece inner setting k good first f o place a s reads (sought_read argument a e) (subst (λ (x : Arg). is_balanced (arg_text x) ≡ true) (sought_same (text_argument argument) a e) (search_balanced argument raw))))
 
-  operator_good : (ends : Bool) (place from : ℕ) (argument : Bytes) (bracket : Open) → (is_pieces bracket ≡ true → fine bare argument ≡ true) → (bracket ≡ Raw → depth (run (marks 0 false) argument) ≡ Some 0)
+  operator_good : (ends : Bool) (place from : ℕ) (argument : Bytes) (bracket : Open) → (bracket ≡ Raw → depth (run (marks 0 false) argument) ≡ Some 0)
       → (o : Option Operator) → RightBracket bracket o → OnReading ends (by_operator inner setting first ends place from argument o)
-  operator_good ends place from argument bracket sane raw None right = tt
-  operator_good ends place from argument bracket sane raw (Some operator.Is) right = selecting_good ends from argument test.Is false operator.Is selects_is (λ last there start text. refl) (sane (ap is_pieces right))
-  operator_good ends place from argument bracket sane raw (Some operator.Not) right = selecting_good ends from argument test.Not false operator.Not selects_not (λ last there start text. refl) (sane (ap is_pieces right))
-  operator_good ends place from argument bracket sane raw (Some operator.Has) right = selecting_good ends from argument test.Has true operator.Has selects_has (λ last there start text. refl) (sane (ap is_pieces right))
-  operator_good ends place from argument bracket sane raw (Some (operator.Nth from_end of_name)) right =
+  operator_good ends place from argument bracket raw None right = tt
+  operator_good ends place from argument bracket raw (Some operator.Is) right = selecting_good ends from argument test.Is false operator.Is selects_is (λ last there start text. refl)
+  operator_good ends place from argument bracket raw (Some operator.Not) right = selecting_good ends from argument test.Not false operator.Not selects_not (λ last there start text. refl)
+  operator_good ends place from argument bracket raw (Some operator.Has) right = selecting_good ends from argument test.Has true operator.Has selects_has (λ last there start text. refl)
+  operator_good ends place from argument bracket raw (Some (operator.Nth from_end of_name)) right =
       on_option ends cause.BadNumber place (nth argument) (λ v. Ok (nth_test from_end of_name v)) (λ v e balanced. hides ends (nth_test from_end of_name v) refl (counting_piece inner setting k good first from_end of_name v (nth_small argument v e)))
-  operator_good ends place from argument bracket sane raw (Some operator.HasText) right = searching_good ends place argument test.HasText operator.HasText searches_text (λ last there start text. refl) (raw right)
-  operator_good ends place from argument bracket sane raw (Some operator.MinText) right =
+  operator_good ends place from argument bracket raw (Some operator.HasText) right = searching_good ends place argument test.HasText operator.HasText searches_text (λ last there start text. refl) (raw right)
+  operator_good ends place from argument bracket raw (Some operator.MinText) right =
       on_option ends cause.BadOperatorArgument place (text_units argument) (λ n. Ok (length_test n)) (λ n e balanced. hides ends (length_test n) refl (measuring_piece inner setting k good first n (units_small argument n e)))
-  operator_good ends place from argument bracket sane raw (Some operator.MatchesPath) right = searching_good ends place argument test.MatchesPath operator.MatchesPath searches_path (λ last there start text. refl) (raw right)
-  operator_good ends place from argument bracket sane raw (Some operator.MatchesAttr) right =
+  operator_good ends place from argument bracket raw (Some operator.MatchesPath) right = searching_good ends place argument test.MatchesPath operator.MatchesPath searches_path (λ last there start text. refl) (raw right)
+  operator_good ends place from argument bracket raw (Some operator.MatchesAttr) right =
       on_option ends cause.BadOperatorArgument place (attribute_pair argument) (λ p. Ok (pair_test place p)) (λ p e balanced. hides ends (pair_test place p) refl
       (matching_piece inner setting k good first place p (pair_read argument p e) (pair_balanced argument p e (sym (balance-MatchesAttr p.name p.value) ∙ all_keep (test.MatchesAttr p.name p.value) balanced) (raw right))))
-  operator_good ends place from argument bracket sane raw (Some operator.WatchAttr) right =
+  operator_good ends place from argument bracket raw (Some operator.WatchAttr) right =
       on_option ends cause.BadOperatorArgument place (watched argument) (λ names. Ok (watch_test names)) (λ names e balanced. hides ends (watch_test names) refl (watching_piece inner setting k good first names (watched_read argument names e)))
-  operator_good ends place from argument bracket sane raw (Some operator.Upward) right = upward_good ends place from argument (sane right)
-  operator_good ends place from argument bracket sane raw (Some operator.Others) right = others_good ends place argument
-  operator_good ends place from argument bracket sane raw (Some operator.Remove) right = action_good ends place argument
-  operator_good ends place from argument bracket sane raw (Some (operator.Aside a)) right = tt
+  operator_good ends place from argument bracket raw (Some operator.Upward) right = upward_good ends place from argument
+  operator_good ends place from argument bracket raw (Some operator.Others) right = others_good ends place argument
+  operator_good ends place from argument bracket raw (Some operator.Remove) right = action_good ends place argument
+  operator_good ends place from argument bracket raw (Some (operator.Aside a)) right = tt
 
   -- ---- pieces without an argument
 
@@ -178,7 +175,6 @@ module _ (inner : Bool → ℕ → Bytes → Result Chains Finding) (setting : S
     pub piece : IsPiece inner setting k first p.reading
     pub nested : setting.nested ≡ true → p.reading.notes.removes ≡ false
     pub last : p.reading.notes.removes ≡ true → drop p.length text ≡ []
-    pub left : fine bare (after p.length text) ≡ true
     pub only : p.reading.notes.removes ≡ true → (setting.last ≡ true) × (setting.several ≡ false)
 
   abbrev pub OnPiece : Bytes → Result Piece Finding → Type 0
@@ -189,40 +185,39 @@ module _ (inner : Bool → ℕ → Bytes → Result Chains Finding) (setting : S
   piece_cond text true x y h g = h refl
   piece_cond text false x y h g = g refl
 
-  hidden : (text : Bytes) (p : Piece) → p.reading.notes.removes ≡ false → IsPiece inner setting k first p.reading → fine bare (after p.length text) ≡ true → GoodPiece text p
-  hidden text p h g left = record { left = left; piece = g; nested = λ e. h; last = λ (e : p.reading.notes.removes ≡ true). absurd (both_ways p.reading.notes.removes h e); only = λ (e : p.reading.notes.removes ≡ true). absurd (both_ways p.reading.notes.removes h e) }
+  hidden : (text : Bytes) (p : Piece) → p.reading.notes.removes ≡ false → IsPiece inner setting k first p.reading → GoodPiece text p
+  hidden text p h g = record { piece = g; nested = λ e. h; last = λ (e : p.reading.notes.removes ≡ true). absurd (both_ways p.reading.notes.removes h e); only = λ (e : p.reading.notes.removes ≡ true). absurd (both_ways p.reading.notes.removes h e) }
 
   named_good : (text : Bytes) (place : ℕ) (behind_sign : Bytes) (of_name : Bytes → Test) (o : Option Taken) → ((t : Taken) → o ≡ Some t → IsPiece inner setting k first (keep (of_name t.value)))
-      → ((t : Taken) → o ≡ Some t → fine bare (after (length behind_sign - length t.rest) text) ≡ true)
       → OnPiece text (spelled.named place behind_sign of_name o)
-  named_good text place behind_sign of_name None h left = tt
-  named_good text place behind_sign of_name (Some t) h left = λ balanced. hidden text (record { length = length behind_sign - length t.rest; reading = keep (of_name t.value) }) refl (h t refl) (left t refl)
+  named_good text place behind_sign of_name None h = tt
+  named_good text place behind_sign of_name (Some t) h = λ balanced. hidden text (record { length = length behind_sign - length t.rest; reading = keep (of_name t.value) }) refl (h t refl)
 
-  attributed_good : (text : Bytes) (place : ℕ) (argument : Bytes) (o : Option Test) → attribute argument ≡ o → fine bare (after (length argument + 2) text) ≡ true
+  attributed_good : (text : Bytes) (place : ℕ) (argument : Bytes) (o : Option Test) → attribute argument ≡ o
       → OnPiece text (or_bad cause.BadAttribute place o >>= λ t. Ok (record { length = length argument + 2; reading = keep t }))
-  attributed_good text place argument None h left = tt
-  attributed_good text place argument (Some t) h left = λ balanced. (
+  attributed_good text place argument None h = tt
+  attributed_good text place argument (Some t) h = λ balanced. (
       let a = attribute_read argument t h in
-      hidden text (record { length = length argument + 2; reading = keep t }) refl (subst (λ (q : Test). IsPiece inner setting k first (keep q)) a.is (attr_piece inner setting k good first a.key a.op a.v a.i a.attr)) left)
+      hidden text (record { length = length argument + 2; reading = keep t }) refl (subst (λ (q : Test). IsPiece inner setting k first (keep q)) a.is (attr_piece inner setting k good first a.key a.op a.v a.i a.attr)))
 
-  without_good : (text : Bytes) (place from : ℕ) (o : Option Plain) → fine bare (after (from - place) text) ≡ true → OnPiece text (plain_reading place o >>= λ r. Ok (record { length = from - place; reading = r }))
-  without_good text place from None left = tt
-  without_good text place from (Some plain.Root) left = λ balanced. hidden text (record { length = from - place; reading = keep test.Root }) refl
-      (plain_piece inner setting k good first test.Root (codes "root") (pseudo (codes "root") refl refl refl refl) text_of_test-Root (λ there. refl)) left
-  without_good text place from (Some plain.Empty) left = λ balanced. hidden text (record { length = from - place; reading = keep test.Empty }) refl
-      (plain_piece inner setting k good first test.Empty (codes "empty") (pseudo (codes "empty") refl refl refl refl) text_of_test-Empty (λ there. refl)) left
-  without_good text place from (Some (plain.Nth from_end of_name)) left = λ balanced. hidden text (record { length = from - place; reading = keep (test.Nth (pos 0) (pos 1) from_end of_name) }) refl (one_of from_end of_name) left
-  without_good text place from (Some (plain.Only of_name)) left = λ balanced. hidden text (record { length = from - place; reading = keep (test.Only of_name) }) refl (only_of of_name) left
-  without_good text place from (Some (plain.Aside a)) left = tt
+  without_good : (text : Bytes) (place from : ℕ) (o : Option Plain) → OnPiece text (plain_reading place o >>= λ r. Ok (record { length = from - place; reading = r }))
+  without_good text place from None = tt
+  without_good text place from (Some plain.Root) = λ balanced. hidden text (record { length = from - place; reading = keep test.Root }) refl
+      (plain_piece inner setting k good first test.Root (codes "root") (pseudo (codes "root") refl refl refl refl) text_of_test-Root (λ there. refl))
+  without_good text place from (Some plain.Empty) = λ balanced. hidden text (record { length = from - place; reading = keep test.Empty }) refl
+      (plain_piece inner setting k good first test.Empty (codes "empty") (pseudo (codes "empty") refl refl refl refl) text_of_test-Empty (λ there. refl))
+  without_good text place from (Some (plain.Nth from_end of_name)) = λ balanced. hidden text (record { length = from - place; reading = keep (test.Nth (pos 0) (pos 1) from_end of_name) }) refl (one_of from_end of_name)
+  without_good text place from (Some (plain.Only of_name)) = λ balanced. hidden text (record { length = from - place; reading = keep (test.Only of_name) }) refl (only_of of_name)
+  without_good text place from (Some (plain.Aside a)) = tt
 
-  with_good : (text : Bytes) (size : ℕ) (ends : Bool) (x : Result Reading Finding) → OnReading ends x → (ends ≡ true → drop size text ≡ []) → fine bare (after size text) ≡ true → OnPiece text (x >>= λ r. Ok (record { length = size; reading = r }))
-  with_good text size ends (Err f) h g left = tt
-  with_good text size ends (Ok r) h g left = λ balanced. (
+  with_good : (text : Bytes) (size : ℕ) (ends : Bool) (x : Result Reading Finding) → OnReading ends x → (ends ≡ true → drop size text ≡ []) → OnPiece text (x >>= λ r. Ok (record { length = size; reading = r }))
+  with_good text size ends (Err f) h g = tt
+  with_good text size ends (Ok r) h g = λ balanced. (
       let q = h balanced in
-      record { piece = q.piece; nested = q.nested; last = λ e. g (q.last e); left = left; only = q.only })
+      record { piece = q.piece; nested = q.nested; last = λ e. g (q.last e); only = q.only })
 
-  argument_good : (place : ℕ) (n low text : Bytes) → fine (standing (opens low text ∷ [])) text ≡ true → OnPiece (58 ∷ (n ++ 40 ∷ text)) (spelled.with_argument inner setting first place low (place + 1 + length n + 1) text)
-  argument_good place n low text sane =
+  argument_good : (place : ℕ) (n low text : Bytes) → OnPiece (58 ∷ (n ++ 40 ∷ text)) (spelled.with_argument inner setting first place low (place + 1 + length n + 1) text)
+  argument_good place n low text =
       let argument = within (standing (opens low text ∷ [])) text in
       let from = place + 1 + length n + 1 in
       let m = length argument + 1 in
@@ -230,61 +225,48 @@ module _ (inner : Bool → ℕ → Bytes → Result Chains Finding) (setting : S
       let left : drop size (58 ∷ (n ++ 40 ∷ text)) ≡ drop m text =
       (let e : size ≡ suc (length n + suc m) = omega arith in
       ap (λ (c : ℕ). drop c (58 ∷ (n ++ 40 ∷ text))) e ∙ drop_past n (40 ∷ text) (suc m)) in
-      with_good (58 ∷ (n ++ 40 ∷ text)) size (is_empty (drop m text)) (by_operator inner setting first (is_empty (drop m text)) place from argument (operator_of low))
-      (operator_good (is_empty (drop m text)) place from argument (opens low text) (λ h. selector_argument (opens low text) text h sane)
-      (λ h. ap (λ (o : Open). depth (run (marks 0 false) (within (standing (o ∷ [])) text))) h ∙ raw_argument text (ap (λ (o : Open). fine (standing (o ∷ [])) text) (sym h) ∙ sane))
+      piece_cond (58 ∷ (n ++ 40 ∷ text)) (is_closed (standing (opens low text ∷ [])) text) _ _
+      (λ closed. with_good (58 ∷ (n ++ 40 ∷ text)) size (is_empty (drop m text)) (by_operator inner setting first (is_empty (drop m text)) place from argument (operator_of low))
+      (operator_good (is_empty (drop m text)) place from argument (opens low text)
+      (λ h. ap (λ (o : Open). depth (run (marks 0 false) (within (standing (o ∷ [])) text))) h ∙ raw_argument text (ap (λ (o : Open). is_closed (standing (o ∷ [])) text) (sym h) ∙ closed))
       (operator_of low) (right_bracket low text))
-      (λ ends. left ∙ empty_nil (drop m text) ends)
-      (operator_after n text (opens low text) size sane (omega arith))
+      (λ ends. left ∙ empty_nil (drop m text) ends))
+      (λ open_still. tt)
 
-  behind_good : (place : ℕ) (n rest : Bytes) → list_all is_pseudo_byte n ≡ true → fine (scan.behind_name [] n rest) (n ++ rest) ≡ true
-      → OnPiece (58 ∷ (n ++ rest)) (spelled.behind_name inner setting first place (str_to_ascii_lowercase n) (place + 1 + length n) rest)
-  behind_good place n [] all sane =
-      without_good (58 ∷ (n ++ [])) place (place + 1 + length n) (plain_of (str_to_ascii_lowercase n)) (plain_after n [] (place + 1 + length n - place) all sane (omega arith))
-  behind_good place n (b ∷ rest) all sane =
+  behind_good : (place : ℕ) (n rest : Bytes) → OnPiece (58 ∷ (n ++ rest)) (spelled.behind_name inner setting first place (str_to_ascii_lowercase n) (place + 1 + length n) rest)
+  behind_good place n [] = without_good (58 ∷ (n ++ [])) place (place + 1 + length n) (plain_of (str_to_ascii_lowercase n))
+  behind_good place n (b ∷ rest) =
       let low = str_to_ascii_lowercase n in
       let from = place + 1 + length n in
       piece_cond (58 ∷ (n ++ b ∷ rest)) (eqb b 40) _ _
-      (λ is. (
-      let e : b ≡ 40 = eqb-true b 40 is in
-      let g : fine (scan.behind_name [] n (40 ∷ rest)) (n ++ 40 ∷ rest) ≡ true = ap (λ (c : ℕ). fine (scan.behind_name [] n (c ∷ rest)) (n ++ c ∷ rest)) (sym e) ∙ sane in
-      subst (λ (c : ℕ). OnPiece (58 ∷ (n ++ c ∷ rest)) (spelled.with_argument inner setting first place low (from + 1) rest)) (sym e)
-      (argument_good place n low rest (bracket_fine n rest (opens low rest) g))))
-      (λ other. (
-      let g : fine bare (n ++ b ∷ rest) ≡ true = ap (λ (c : Bool). fine (if c then record { stack = []; skip = length n; next = opens low rest } else bare) (n ++ b ∷ rest)) (sym other) ∙ sane in
-      without_good (58 ∷ (n ++ b ∷ rest)) place from (plain_of low) (plain_after n (b ∷ rest) (from - place) all g (omega arith))))
+      (λ is. subst (λ (c : ℕ). OnPiece (58 ∷ (n ++ c ∷ rest)) (spelled.with_argument inner setting first place low (from + 1) rest)) (sym (eqb-true b 40 is)) (argument_good place n low rest))
+      (λ other. without_good (58 ∷ (n ++ b ∷ rest)) place from (plain_of low))
 
   element_good : (text : Bytes) (place : ℕ) (c : Bool) → OnPiece text (if c then spelled.aside kind.PseudoElement else spelled.bad cause.BadName place)
   element_good text place true = tt
   element_good text place false = tt
 
-  pseudo_good : (place : ℕ) (text : Bytes) → fine bare (58 ∷ text) ≡ true → OnPiece (58 ∷ text) (spelled.pseudo inner setting first place text)
-  pseudo_good place text sane =
+  pseudo_good : (place : ℕ) (text : Bytes) → OnPiece (58 ∷ text) (spelled.pseudo inner setting first place text)
+  pseudo_good place text =
       let n = front is_pseudo_byte text in
       let w = behind is_pseudo_byte text in
       piece_cond (58 ∷ text) (begins_with colon text) _ _ (λ is. element_good (58 ∷ text) place (begins_name (drop 1 text)))
       (λ other. piece_cond (58 ∷ text) (begins_name n) _ _
-      (λ begins. (
-      let tail : fine (step bare 58 text) text ≡ true = (and_parts (not (is_wrong bare 58)) (fine (step bare 58 text) text) sane).1 in
-      let s : step bare 58 text ≡ scan.behind_name [] n w = ap (λ (c : Bool). if c then record { stack = []; skip = 1; next = Round } else scan.behind_name [] n w) other in
-      let g : fine (scan.behind_name [] n w) (n ++ w) ≡ true = ap₂ fine (sym s) (front_behind is_pseudo_byte text) ∙ tail in
-      subst (λ (t : Bytes). OnPiece (58 ∷ t) (spelled.behind_name inner setting first place (str_to_ascii_lowercase n) (place + 1 + length n) w)) (front_behind is_pseudo_byte text)
-      (behind_good place n w (front_all is_pseudo_byte text) g)))
+      (λ begins. subst (λ (t : Bytes). OnPiece (58 ∷ t) (spelled.behind_name inner setting first place (str_to_ascii_lowercase n) (place + 1 + length n) w)) (front_behind is_pseudo_byte text)
+      (behind_good place n w))
       (λ none. tt))
 
   -- what is read as a piece is read again from its canonical text
-  pub piece_good : (place b : ℕ) (text : Bytes) → fine bare (b ∷ text) ≡ true → OnPiece (b ∷ text) (piece inner setting first place b text)
-  piece_good place b text sane =
+  pub piece_good : (place b : ℕ) (text : Bytes) → OnPiece (b ∷ text) (piece inner setting first place b text)
+  piece_good place b text =
       let all = b ∷ text in
+      let inside = within (standing (Square ∷ [])) text in
       let id : (t : Taken) → name text ≡ Some t → IsPiece inner setting k first (keep (test.Id t.value)) = λ (t : Taken) (e : name text ≡ Some t). id_piece inner setting k good first t.value (name_read text t e) in
       let class : (t : Taken) → name text ≡ Some t → IsPiece inner setting k first (keep (test.Class t.value)) = λ (t : Taken) (e : name text ≡ Some t). class_piece inner setting k good first t.value (name_read text t e) in
-      piece_cond all (eqb b 35) _ _ (λ is. named_good all place all test.Id (name text) id (λ t e. signed_after b text t e (ap (λ (c : ℕ). step bare c text) (eqb-true b 35 is)) sane))
-      (λ o1. piece_cond all (eqb b 46) _ _ (λ is. named_good all place all test.Class (name text) class (λ t e. signed_after b text t e (ap (λ (c : ℕ). step bare c text) (eqb-true b 46 is)) sane))
-      (λ o2. piece_cond all (eqb b 91) _ _ (λ is. attributed_good all place (within (standing (Square ∷ [])) text) (attribute (within (standing (Square ∷ [])) text)) refl
-      (square_after text (ap (λ (c : ℕ). fine bare (c ∷ text)) (sym (eqb-true b 91 is)) ∙ sane)))
-      (λ o3. piece_cond all (eqb b 58) _ _ (λ is. subst (λ (c : ℕ). OnPiece (c ∷ text) (spelled.pseudo inner setting first place text)) (sym (eqb-true b 58 is)) (pseudo_good place text (ap (λ (c : ℕ). fine bare (c ∷ text)) (sym (eqb-true b 58 is)) ∙ sane)))
+      piece_cond all (eqb b 35) _ _ (λ is. named_good all place all test.Id (name text) id)
+      (λ o1. piece_cond all (eqb b 46) _ _ (λ is. named_good all place all test.Class (name text) class)
+      (λ o2. piece_cond all (eqb b 91) _ _ (λ is. piece_cond all (is_closed (standing (Square ∷ [])) text) _ _ (λ closed. attributed_good all place inside (attribute inside) refl) (λ open_still. tt))
+      (λ o3. piece_cond all (eqb b 58) _ _ (λ is. subst (λ (c : ℕ). OnPiece (c ∷ text) (spelled.pseudo inner setting first place text)) (sym (eqb-true b 58 is)) (pseudo_good place text))
       (λ o4. piece_cond all (not first) _ _ (λ is. tt)
-      (λ is_first. piece_cond all (eqb b 42) _ _ (λ is balanced. hidden all (record { length = 1; reading = keep test.Any }) refl (any_piece inner setting k good first (not-false first is_first))
-      (star_after text (ap (λ (c : ℕ). fine bare (c ∷ text)) (sym (eqb-true b 42 is)) ∙ sane)))
-      (λ o5. named_good all place all spelled.tag (name all) (λ t e. tag_piece inner setting k good first (str_to_ascii_lowercase t.value) (lower_read t.value (name_read all t e)) (lower_lower t.value) (not-false first is_first))
-      (λ t e. tag_after b text t e sane)))))))
+      (λ is_first. piece_cond all (eqb b 42) _ _ (λ is balanced. hidden all (record { length = 1; reading = keep test.Any }) refl (any_piece inner setting k good first (not-false first is_first)))
+      (λ o5. named_good all place all spelled.tag (name all) (λ t e. tag_piece inner setting k good first (str_to_ascii_lowercase t.value) (lower_read t.value (name_read all t e)) (lower_lower t.value) (not-false first is_first))))))))

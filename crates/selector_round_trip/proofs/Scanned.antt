@@ -1,12 +1,12 @@
 -- A scan through a front of a text: what it meets on the way, and how it stands behind it.
 use Rattle.std.proofs.Common.{◌≡◌, ℕ, zero, suc, ◌+◌, Bool, true, false, not, eqb, leb, ◌&&◌, ◌||◌, List, [], ◌∷◌, ◌++◌, length, length-append, Option, Some, None, if◌then◌else◌, refl, sym, ap, ◌∙◌, append_assoc, append-nil, arith, inl, inr}
 use Rattle.std.specs.List.{list_all}
-use Rattle.std.proofs.lemmas.Bool.{cases_Bool, and_parts, and_from, and_left, and_right, not-true, or_parts}
+use Rattle.std.proofs.lemmas.Bool.{cases_Bool, and_parts, and_from, and_left, and_right, not-true, or_parts, lt-ltb}
 use Rattle.cos_source.specs.Spaces.{is_space}
 use Rattle.selector_spelling.specs.declared.open.Open.{Open}
 use Rattle.selector_spelling.specs.declared.open.Open.TheVariants.{Selector, Raw, Round, Square, DoubleQuote, SingleQuote}
 use Rattle.selector_spelling.specs.Bytes.{Bytes, begins_with, front, behind, is_empty, is_pseudo_byte, is_quote, colon, backslash, round_open, round_close, square_open, square_close}
-use Rattle.selector_spelling.specs.Scan.{Scan, standing, bare, is_bare, innermost, closes_wrongly, is_wrong, is_selector, behind_name, behind_colon, in_pieces, inside, step, within, unbalanced, too_nested, is_too_deep, unless_skipped}
+use Rattle.selector_spelling.specs.Scan.{Scan, standing, bare, is_bare, innermost, closes_wrongly, is_wrong, is_selector, behind_name, behind_colon, in_pieces, inside, step, within, is_closed, unbalanced, too_nested, is_too_deep, unless_skipped}
 use Rattle.selector_spelling.specs.Cuts.{is_comma, is_sign}
 
 -- the scan behind a front of a text
@@ -196,6 +196,10 @@ within_argument o close used rest other kept closes =
     ∙ ap (λ (s : Scan). used ++ within s (close ∷ rest)) kept.ends
     ∙ ap (λ (t : Bytes). used ++ t) last
     ∙ append-nil used
+
+-- and a bracket closes it
+pub closed_by : (o : Open) (close : ℕ) (used rest : Bytes) → within (standing (o ∷ [])) (used ++ close ∷ rest) ≡ used → is_closed (standing (o ∷ [])) (used ++ close ∷ rest) ≡ true
+closed_by o close used rest inside = lt-ltb _ _ (omega (arith, ap length inside, length-append used (close ∷ rest)))
 
 -- ---- inside a selector argument
 

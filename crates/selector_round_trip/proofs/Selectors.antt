@@ -15,8 +15,6 @@ use Rattle.selector_spelling.specs.Pieces.{◌>>=◌, no_notes}
 use Rattle.selector_spelling.specs.Texts.{chain, chains, chains_then, are_several, selector, argument}
 use Rattle.selector_round_trip.specs.Balanced.{step_is_balanced, are_balanced}
 use Rattle.selector_round_trip.proofs.Scanned.{IsSound, IsSound-append, IsSound-nil}
-use Rattle.selector_round_trip.proofs.Fine.{fine}
-use Rattle.selector_round_trip.proofs.FineParts.{AreFine, commas_fine}
 use Rattle.selector_round_trip.proofs.Seen.{Seen, seen, Told, told-joined, told_joined, SeenChains, seen_chains, removes_text}
 use Rattle.selector_round_trip.proofs.Operators.{ends_piece}
 use Rattle.selector_round_trip.proofs.Pieces.{IsSelector, Starts, chains_text}
@@ -75,7 +73,7 @@ then-same : (a c : Reading) (b d : Chains) → seen a ≡ seen c → seen_chains
 then-same a c b d h g = seen-then a b ∙ ap₂ seen_then h g ∙ sym (seen-then c d)
 
 module _ (inner : Bool → ℕ → Bytes → Result Chains Finding) (k : ℕ)
-    (good : (in_has : Bool) (place : ℕ) (text : Bytes) (l : Chains) → inner in_has place text ≡ Ok l → fine bare text ≡ true → are_balanced l.chains ≡ true → IsSelector inner (k + 1) in_has l) (is_nested in_has : Bool) where
+    (good : (in_has : Bool) (place : ℕ) (text : Bytes) (l : Chains) → inner in_has place text ≡ Ok l → are_balanced l.chains ≡ true → IsSelector inner (k + 1) in_has l) (is_nested in_has : Bool) where
   module _ (is_several : Bool) where
     abbrev read_chains : List Part → Result Chains Finding
     read_chains = chains inner is_nested is_several in_has
@@ -171,14 +169,14 @@ module _ (inner : Bool → ℕ → Bytes → Result Chains Finding) (k : ℕ)
     balanced_parts : (r : Reading) (l m : Chains) → chains_then r l ≡ m → are_balanced m.chains ≡ true → (list_all step_is_balanced r.steps ≡ true) × (are_balanced l.chains ≡ true)
     balanced_parts r l m e balanced = and_parts (list_all step_is_balanced r.steps) (are_balanced l.chains) (ap (λ (x : Chains). are_balanced x.chains) e ∙ balanced)
 
-    chains_good : (ps : List Part) (l : Chains) → AreLone ps → AreFine ps → read_chains ps ≡ Ok l → are_balanced l.chains ≡ true → AreChains ps l
-    chains_good [] l lone sane h balanced = subst (AreChains []) (ok_same no_chains l h) no_more
-    chains_good (p ∷ ps) l lone sane h balanced =
+    chains_good : (ps : List Part) (l : Chains) → AreLone ps → read_chains ps ≡ Ok l → are_balanced l.chains ≡ true → AreChains ps l
+    chains_good [] l lone h balanced = subst (AreChains []) (ok_same no_chains l h) no_more
+    chains_good (p ∷ ps) l lone h balanced =
         let x = bound (chain inner is_nested is_several (items_of in_has p)) (λ r. read_chains ps >>= λ m. Ok (chains_then r m)) l h in
         let y = bound (read_chains ps) (λ m. Ok (chains_then x.value m)) l x.gives in
         let e : chains_then x.value y.value ≡ l = ok_same (chains_then x.value y.value) l y.gives in
         let q = balanced_parts x.value y.value l e balanced in
-        subst (AreChains (p ∷ ps)) e (more_chains p ps x.value y.value (chain_good inner is_nested is_several k good in_has p x.value sane.0 x.is q.0) (chains_good ps y.value lone.1 sane.1 y.is q.1) lone.0)
+        subst (AreChains (p ∷ ps)) e (more_chains p ps x.value y.value (chain_good inner is_nested is_several k good in_has p x.value x.is q.0) (chains_good ps y.value lone.1 y.is q.1) lone.0)
 
   -- ---- a whole selector
 
@@ -233,24 +231,24 @@ module _ (inner : Bool → ℕ → Bytes → Result Chains Finding) (k : ℕ)
         nested = λ s. or_from r.notes.removes l.notes.removes (c.nested s) (h.nested s);
       }
 
-  whole_parts : (ps : List Part) (l : Chains) → IsSome ps → AreFine ps → chains inner is_nested (are_several ps) in_has ps ≡ Ok l → are_balanced l.chains ≡ true → IsWhole l
-  whole_parts [] l some sane h balanced = absurd some
-  whole_parts (p ∷ ps) l some sane h balanced =
+  whole_parts : (ps : List Part) (l : Chains) → IsSome ps → chains inner is_nested (are_several ps) in_has ps ≡ Ok l → are_balanced l.chains ≡ true → IsWhole l
+  whole_parts [] l some h balanced = absurd some
+  whole_parts (p ∷ ps) l some h balanced =
       let many = are_several (p ∷ ps) in
       let lone = lone_all p ps in
       let x = bound (chain inner is_nested many (items_of in_has p)) (λ r. chains inner is_nested many in_has ps >>= λ m. Ok (chains_then r m)) l h in
       let y = bound (chains inner is_nested many in_has ps) (λ m. Ok (chains_then x.value m)) l x.gives in
       let e : chains_then x.value y.value ≡ l = ok_same (chains_then x.value y.value) l y.gives in
       let q = balanced_parts many x.value y.value l e balanced in
-      subst IsWhole e (whole_from p ps x.value y.value (chain_good inner is_nested many k good in_has p x.value sane.0 x.is q.0) (chains_good many ps y.value lone.1 sane.1 y.is q.1) lone.0)
+      subst IsWhole e (whole_from p ps x.value y.value (chain_good inner is_nested many k good in_has p x.value x.is q.0) (chains_good many ps y.value lone.1 y.is q.1) lone.0)
 
-  pub whole_good : (place : ℕ) (text : Bytes) (l : Chains) → selector inner is_nested in_has place text ≡ Ok l → fine bare text ≡ true → are_balanced l.chains ≡ true → IsWhole l
-  whole_good place text l h sane balanced = whole_parts (parts is_comma place text) l (parts_some is_comma bare 0 place text) (commas_fine place text sane) h balanced
+  pub whole_good : (place : ℕ) (text : Bytes) (l : Chains) → selector inner is_nested in_has place text ≡ Ok l → are_balanced l.chains ≡ true → IsWhole l
+  whole_good place text l h balanced = whole_parts (parts is_comma place text) l (parts_some is_comma bare 0 place text) h balanced
 
 -- ---- arguments, level by level
 
 nested_selector : (inner outer : Bool → ℕ → Bytes → Result Chains Finding) (k : ℕ)
-    (good : (in_has : Bool) (place : ℕ) (text : Bytes) (l : Chains) → inner in_has place text ≡ Ok l → fine bare text ≡ true → are_balanced l.chains ≡ true → IsSelector inner (k + 1) in_has l)
+    (good : (in_has : Bool) (place : ℕ) (text : Bytes) (l : Chains) → inner in_has place text ≡ Ok l → are_balanced l.chains ≡ true → IsSelector inner (k + 1) in_has l)
     (in_has : Bool) (l : Chains) → k ≤ 16 → ((place : ℕ) (text : Bytes) → outer in_has place text ≡ selector inner true in_has place text) → IsWhole inner k good true in_has l → IsSelector outer k in_has l
 nested_selector inner outer k good in_has l room ties w =
     let hides = w.nested refl in
@@ -265,8 +263,8 @@ nested_selector inner outer k good in_has l room ties w =
       hides = hides;
     }
 
-pub argument_good : (levels k : ℕ) → k + levels ≡ 17 → (in_has : Bool) (place : ℕ) (text : Bytes) (l : Chains) → argument levels in_has place text ≡ Ok l → fine bare text ≡ true → are_balanced l.chains ≡ true → IsSelector (argument levels) k in_has l
-argument_good zero k sum in_has place text l h sane balanced = absurd (let w : Err (Malformed cause.TooNested place) ≡ Ok l = h in cc)
-argument_good (suc levels) k sum in_has place text l h sane balanced =
+pub argument_good : (levels k : ℕ) → k + levels ≡ 17 → (in_has : Bool) (place : ℕ) (text : Bytes) (l : Chains) → argument levels in_has place text ≡ Ok l → are_balanced l.chains ≡ true → IsSelector (argument levels) k in_has l
+argument_good zero k sum in_has place text l h balanced = absurd (let w : Err (Malformed cause.TooNested place) ≡ Ok l = h in cc)
+argument_good (suc levels) k sum in_has place text l h balanced =
     let good = argument_good levels (k + 1) (omega arith) in
-    nested_selector (argument levels) (argument (suc levels)) k good in_has l (omega arith) (λ there t. refl) (whole_good (argument levels) k good true in_has place text l h sane balanced)
+    nested_selector (argument levels) (argument (suc levels)) k good in_has l (omega arith) (λ there t. refl) (whole_good (argument levels) k good true in_has place text l h balanced)

@@ -9,8 +9,8 @@
 //! How it is proved: `proofs/Scanned.antt` follows the scan of brackets through a front of a text. `Names`, `NameScans`,
 //! `Literals`, `Bodies`, `Numbers`, `Attributes`, `Args` and `Watched` are the parts of pieces, each with its text read back
 //! and scanned. `Operators`, `Pieces` and `PiecesRead` are the pieces, `Compounds`, `Links`, `Chains` and `Selectors` what is
-//! made of them, level by level, and `Law` is the whole. `Fine`, `Cutout`, `FineParts`, `PieceScan` and `Marks` follow the
-//! balance of brackets from a text that is read down to its raw arguments.
+//! made of them, level by level, and `Law` is the whole. `Closed` and `Marks` follow the balance of brackets in a raw argument,
+//! from the bracket that closes it to the literals and patterns in it.
 #![tactic(auto)]
 
 ghost use Rattle.selector_round_trip.specs.RoundTrip.{AreTold, IsReadBack};

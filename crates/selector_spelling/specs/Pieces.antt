@@ -14,6 +14,7 @@ use Rattle.selector_spelling.specs.declared.finding.Cause.{Cause}
 use Rattle.selector_spelling.specs.declared.finding.Cause.TheVariants as cause
 use Rattle.selector_spelling.specs.declared.finding.Finding.{Finding}
 use Rattle.selector_spelling.specs.declared.finding.Finding.TheVariants.{SetAside, Malformed}
+use Rattle.selector_spelling.specs.declared.open.Open.{Open}
 use Rattle.selector_spelling.specs.declared.open.Open.TheVariants.{Square}
 use Rattle.selector_spelling.specs.declared.operator.Operator.{Operator}
 use Rattle.selector_spelling.specs.declared.operator.Operator.TheVariants as operator
@@ -26,7 +27,7 @@ use Rattle.selector_spelling.specs.declared.reading.Chains.{Chains}
 use Rattle.selector_spelling.specs.declared.reading.Setting.{Setting}
 use Rattle.selector_spelling.specs.Bytes.{Bytes, front, behind, begins_with, is_pseudo_byte, is_empty, is_blank, is_number, is_one_of, colon, dot, hash, star, square_open, round_open}
 use Rattle.selector_spelling.specs.Names.{Taken, begins_name, name}
-use Rattle.selector_spelling.specs.Scan.{standing, opens, within}
+use Rattle.selector_spelling.specs.Scan.{standing, opens, within, is_closed}
 use Rattle.selector_spelling.specs.Attributes.{attribute}
 use Rattle.selector_spelling.specs.Arguments.{Nth, nth, text_units, degree, text_argument, sought, Pair, attribute_pair, watched}
 
@@ -256,11 +257,15 @@ abbrev pub named : ℕ → Bytes → (Bytes → Test) → Option Taken → Resul
 named at text of_name None = bad cause.BadName at
 named at text of_name (Some n) = Ok (record { length = length text - length n.rest; reading = keep (of_name n.value) })
 
+-- what stands in a bracket is read where another closes it; stage 1 leaves none open
+abbrev pub where_closed : {A : Type 0} → ℕ → Open → Bytes → Result A Finding → Result A Finding
+where_closed at opened text read = if is_closed (standing (opened ∷ [])) text then read else bad cause.Unbalanced at
+
 -- behind a `[`
 abbrev pub attributed : ℕ → Bytes → Result Piece Finding
 attributed at text =
     let argument = within (standing (Square ∷ [])) text in
-    or_bad cause.BadAttribute at (attribute argument) >>= λ t. Ok (record { length = length argument + 2; reading = keep t })
+    where_closed at Square text (or_bad cause.BadAttribute at (attribute argument) >>= λ t. Ok (record { length = length argument + 2; reading = keep t }))
 
 abbrev pub tag : Bytes → Test
 tag n = test.Tag (str_to_ascii_lowercase n)
@@ -301,8 +306,9 @@ module _ (inner : Bool → ℕ → Bytes → Result Chains Finding) where
   abbrev pub with_argument : Setting → Bool → ℕ → Bytes → ℕ → Bytes → Result Piece Finding
   with_argument setting first at n from text =
       let argument = within (standing (opens n text ∷ [])) text in
-      by_operator setting first (is_empty (drop (length argument + 1) text)) at from argument (operator_of n)
-      >>= λ r. Ok (record { length = from - at + length argument + 1; reading = r })
+      where_closed at (opens n text) text
+      (by_operator setting first (is_empty (drop (length argument + 1) text)) at from argument (operator_of n)
+      >>= λ r. Ok (record { length = from - at + length argument + 1; reading = r }))
 
   -- behind the name of a pseudo-class, at the place `from`
   abbrev pub behind_name : Setting → Bool → ℕ → Bytes → ℕ → Bytes → Result Piece Finding

@@ -1,5 +1,5 @@
 -- What is open before each byte of a text: brackets, strings, escapes. A place is bare where nothing is.
-use Rattle.std.specs.Prelude.{ℕ, zero, suc, ◌+◌, nat_le, Bool, true, false, not, ◌==◌, ◌&&◌, ◌||◌, List, [], ◌∷◌, length, codes, Option, Some, None, if◌then◌else◌}
+use Rattle.std.specs.Prelude.{ℕ, zero, suc, ◌+◌, nat_le, nat_lt, Bool, true, false, not, ◌==◌, ◌&&◌, ◌||◌, List, [], ◌∷◌, length, codes, Option, Some, None, if◌then◌else◌}
 use Rattle.std.specs.Char.{is_ascii_digit}
 use Rattle.std.specs.List.{list_all}
 use Rattle.std.specs.Str.{bytes_eq, str_to_ascii_lowercase}
@@ -173,3 +173,7 @@ too_nested s at (b ∷ text) =
 abbrev pub within : Scan → Bytes → Bytes
 within s [] = []
 within s (b ∷ text) = if is_bare (step s b text) then [] else b ∷ within (step s b text) text
+
+-- there is such a bracket
+abbrev pub is_closed : Scan → Bytes → Bool
+is_closed s text = nat_lt (length (within s text)) (length text)

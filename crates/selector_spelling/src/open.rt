@@ -1,5 +1,5 @@
 /// What can be open at a place of a text.
-#[derive(Debug, Clone, Copy, PartialEq, Eq)]
+#[derive(Debug, Clone, Copy)]
 pub enum Open {
     /// An argument that is a selector, as of `:is(`.
     Selector,

@@ -1,7 +1,7 @@
 use crate::Kind;
 
 /// What `:name` without an argument is.
-#[derive(Debug, Clone, Copy, PartialEq, Eq)]
+#[derive(Debug, Clone, Copy)]
 pub enum Plain {
     /// `:root`.
     Root,
@@ -24,7 +24,7 @@ pub enum Plain {
 }
 
 /// What `:name(..)` is.
-#[derive(Debug, Clone, Copy, PartialEq, Eq)]
+#[derive(Debug, Clone, Copy)]
 pub enum Operator {
     /// `:is(..)`, `:where(..)`.
     Is,

@@ -45,7 +45,7 @@ pub struct Chains {
 }
 
 /// Where a compound stands.
-#[derive(Debug, Clone, Copy, PartialEq, Eq)]
+#[derive(Debug, Clone, Copy)]
 pub struct Setting {
     /// In an argument.
     pub nested: bool,

@@ -1,15 +1,19 @@
 -- The first part of a text, and an argument, as slices.
 use denote.Ref.{Bor}
-use Rattle.std.proofs.Common.{◌≡◌, ℕ, ◌+◌, ◌<◌, [], ◌∷◌, ◌++◌, length, get_or, take, drop, Some, None, sym, ap, ◌∙◌, arith}
+use Rattle.std.proofs.Common.{◌≡◌, ℕ, ◌+◌, ◌<◌, Bool, true, false, [], ◌∷◌, ◌++◌, length, get_or, take, drop, Some, None, Result, if◌then◌else◌, sym, ap, ◌∙◌, arith, inl, inr}
 use Rattle.std.specs.Str.{IsUtf8, IsCharBoundary}
 use Rattle.std.proofs.lemmas.List.{take_all, append-nil, take-append-drop, drop_more, length-take-le, length-drop}
+use Rattle.std.proofs.lemmas.Bool.{cases_Bool, ltb-true, lt-ltb}
 use Rattle.std.proofs.lemmas.Str.{IsCharBoundary-after_ascii}
 use Rattle.selector_spelling.specs.Bytes.{Bytes}
-use Rattle.selector_spelling.specs.Scan.{bare}
+use Rattle.selector_spelling.specs.Scan.{bare, standing, within, is_closed}
+use Rattle.selector_spelling.specs.Pieces.{bad, Piece, where_closed}
+use Rattle.selector_spelling.specs.declared.finding.Cause.TheVariants as cause
+use Rattle.selector_spelling.specs.declared.finding.Finding.{Finding}
 use Rattle.selector_spelling.specs.Cuts.{Part, parts_from}
 use Rattle.selector_spelling.specs.declared.open.Open.{Open}
 use Rattle.spelling_reader.specs.declared.cuts.Cut.{Cut}
-use Rattle.spelling_reader.specs.Splits.{cuts, EndsPart, EndsArgument, IsFirst}
+use Rattle.spelling_reader.specs.Splits.{cuts, EndsPart, EndsArgument, IsFirst, IsArgument}
 use Rattle.spelling_reader.proofs.CutLaws.{cuts-separate, parts-last, parts-first}
 
 abbrev part : ℕ → ℕ → Bytes → Part
@@ -41,6 +45,28 @@ is-first cut text n b front rest ends lt front-is rest-is b-is =
           ∙ ap (λ (k : ℕ). part sign at front.now ∷ parts_from p bare k (at + n + 1) (drop (n + 1) text)) (sym b-is)
           ∙ ap (λ (k : ℕ). part sign at front.now ∷ parts_from p bare b (at + k + 1) (drop (n + 1) text)) (sym count)
           ∙ ap (λ (v : Bytes). part sign at front.now ∷ parts_from p bare b (at + length front.now + 1) v) (sym rest-is);
+    }
+
+-- ---- an argument, and whether a bracket closes it
+
+within-length : (opened : Open) (text : Bytes) (n : ℕ) → EndsArgument opened text n → length (within (standing (opened ∷ [])) text) ≡ n
+within-length opened text n ends = ap length ends.front ∙ length-take-le n text ends.most
+
+pub is-open : (at : ℕ) (opened : Open) (text : Bytes) (n : ℕ) (read : Result Piece Finding) → EndsArgument opened text n → n ≡ length text → where_closed at opened text read ≡ bad cause.Unbalanced at
+is-open at opened text n read ends all =
+    let open_still : is_closed (standing (opened ∷ [])) text ≡ false =
+    elim (cases_Bool (is_closed (standing (opened ∷ [])) text)) [ inl h ↦ absurd (omega (arith, ltb-true _ _ h, within-length opened text n ends, all)) | inr h ↦ h ] in
+    ap (λ (c : Bool). if c then read else bad cause.Unbalanced at) open_still
+
+pub is-argument : (opened : Open) (text : Bytes) (n : ℕ) (front rest : Bor Bytes) → EndsArgument opened text n → n < length text → front.now ≡ take n text → rest.now ≡ drop (n + 1) text
+    → IsArgument opened text front.now rest.now
+is-argument opened text n front rest ends lt front-is rest-is =
+    let count : length front.now ≡ n = ap length front-is ∙ length-take-le n text ends.most in
+    record {
+      closed = lt-ltb _ _ (omega (arith, within-length opened text n ends, lt));
+      is = front-is ∙ sym ends.front;
+      rest_is = rest-is ∙ ap (λ (k : ℕ). drop (k + 1) text) (sym count);
+      lengths = omega (arith, count, ap length rest-is, length-drop (n + 1) text);
     }
 
 -- a text may be cut behind a byte that it is cut at, and behind the end of an argument

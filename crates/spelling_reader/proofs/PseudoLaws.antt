@@ -1,13 +1,14 @@
 -- Pieces by their first byte, and pseudo-classes.
 use denote.Ref.{Bor}
 use Rattle.std.specs.Prelude.{MatchResult}
-use Rattle.std.proofs.Common.{◌≡◌, ℕ, zero, suc, ◌+◌, ◌-◌, Bool, true, false, List, [], ◌∷◌, length, drop, Option, Some, None, Result, Ok, Err, refl, sym, ap, subst, ◌∙◌, arith, inl, inr}
+use Rattle.std.proofs.Common.{◌≡◌, ℕ, zero, suc, ◌+◌, ◌-◌, Bool, true, false, List, [], ◌∷◌, length, drop, Option, Some, None, Result, Ok, Err, if◌then◌else◌, refl, sym, ap, subst, ◌∙◌, arith, inl, inr}
 use Rattle.std.specs.Str.{str_to_ascii_lowercase}
 use Rattle.std.proofs.lemmas.List.{drop-drop}
 use Rattle.std.proofs.lemmas.Bool.{cases_Bool, false≢true, eqb-true}
 use Rattle.selector_tree.specs.declared.selector.Step.{Step}
 use Rattle.selector_spelling.specs.declared.finding.Cause.TheVariants as cause
 use Rattle.selector_spelling.specs.declared.finding.Finding.{Finding}
+use Rattle.selector_spelling.specs.declared.open.Open.{Open}
 use Rattle.selector_spelling.specs.declared.operator.Operator.{Operator}
 use Rattle.selector_spelling.specs.declared.reading.Notes.{Notes}
 use Rattle.selector_spelling.specs.declared.reading.Reading.{Reading}
@@ -15,8 +16,8 @@ use Rattle.selector_spelling.specs.declared.reading.Chains.{Chains}
 use Rattle.selector_spelling.specs.declared.reading.Setting.{Setting}
 use Rattle.selector_spelling.specs.Bytes.{Bytes, front, behind, begins_with, is_pseudo_byte, is_empty, colon, round_open}
 use Rattle.selector_spelling.specs.Names.{begins_name}
-use Rattle.selector_spelling.specs.Scan.{opens}
-use Rattle.selector_spelling.specs.Pieces.{◌>>=◌, bad, keep, Piece, pseudo, pseudo_class, behind_name, with_argument, without_argument, without_argument_reading, by_operator, operator_of}
+use Rattle.selector_spelling.specs.Scan.{opens, standing, is_closed}
+use Rattle.selector_spelling.specs.Pieces.{◌>>=◌, bad, keep, Piece, where_closed, pseudo, pseudo_class, behind_name, with_argument, without_argument, without_argument_reading, by_operator, operator_of}
 use Rattle.selector_spelling.specs.Texts.{argument, selector}
 use Rattle.spelling_reader.specs.declared.stop.Stop.{Stop}
 use Rattle.spelling_reader.specs.declared.stop.Stop.TheVariants as stop
@@ -27,6 +28,9 @@ use Rattle.spelling_reader.proofs.ReadsLaws.{notes-nothing}
 fails-same : {A : Type 0} (e : Stop) (a b : Result A Finding) → a ≡ b → Fails e b → Fails e a
 fails-same stop.NoMemory a b e h = tt
 fails-same (stop.Found f) a b e h = e ∙ h
+
+closed-then : {A : Type 0} (at : ℕ) (opened : Open) (text : Bytes) (read : Result A Finding) → is_closed (standing (opened ∷ [])) text ≡ true → where_closed at opened text read ≡ read
+closed-then at opened text read h = ap (λ (c : Bool). if c then read else bad cause.Unbalanced at) h
 
 -- ---- arguments by their levels
 
@@ -111,10 +115,15 @@ module _ (inner : Inner) (setting : Setting) (first : Bool) (at : ℕ) (text nam
         notes_are = r.notes_are;
       }
 
-  module _ (inside argument' after : Bytes) (h : begins_name name ≡ true) (b : begins_with round_open rest ≡ true) (inside-is : inside ≡ drop 1 rest) (a : IsArgument (opens lower inside) inside argument' after) where
+  module _ (inside : Bytes) (h : begins_name name ≡ true) (b : begins_with round_open rest ≡ true) (inside-is : inside ≡ drop 1 rest) where
     bracket-given : pseudo inner setting first at text ≡ with_argument inner setting first at lower (at + 1 + length name + 1) inside
     bracket-given = named-given h ∙ ap (behind_name inner setting first at lower (at + 1 + length name)) (begins-cons round_open rest inside b inside-is)
 
+    -- no bracket closes the argument
+    pub open_stop : (e : Stop) → ((read : Result Piece Finding) → Fails e (where_closed at (opens lower inside) inside read)) → Fails e (pseudo inner setting first at text)
+    open_stop e f = fails-same e (pseudo inner setting first at text) _ bracket-given (f _)
+
+  module _ (inside argument' after : Bytes) (h : begins_name name ≡ true) (b : begins_with round_open rest ≡ true) (inside-is : inside ≡ drop 1 rest) (a : IsArgument (opens lower inside) inside argument' after) where
     abbrev by : ℕ → Option Operator → Result Reading Finding
     by from o = by_operator inner setting first (is_empty after) at from argument' o
 
@@ -123,7 +132,8 @@ module _ (inner : Inner) (setting : Setting) (first : Bool) (at : ℕ) (text nam
 
     argument-given : pseudo inner setting first at text ≡ (by (at + 1 + length name + 1) (operator_of lower) >>= counted)
     argument-given =
-        bracket-given
+        bracket-given inside h b inside-is
+        ∙ closed-then at (opens lower inside) inside _ a.closed
         ∙ ap (λ (v : Bytes). by_operator inner setting first (is_empty (drop (length v + 1) inside)) at (at + 1 + length name + 1) v (operator_of lower) >>= λ r. Ok (record { length = at + 1 + length name + 1 - at + length v + 1; reading = r })) (sym a.is)
         ∙ ap (λ (v : Bytes). by_operator inner setting first (is_empty v) at (at + 1 + length name + 1) argument' (operator_of lower) >>= counted) (sym a.rest_is)
 

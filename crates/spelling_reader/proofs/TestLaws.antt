@@ -21,6 +21,7 @@ use Rattle.spelling_reader.specs.declared.stop.Stop.TheVariants as stop
 use Rattle.spelling_reader.specs.declared.tests_of.Named.{Named}
 use Rattle.spelling_reader.specs.declared.tests_of.Named.TheVariants as kind
 use Rattle.spelling_reader.specs.Named.{of_name, NamesTest, FailsName}
+use Rattle.spelling_reader.specs.Splits.{IsArgument}
 use Rattle.spelling_reader.specs.Stops.{Inner, Fails, ReadsTest, piece_at}
 use Rattle.spelling_reader.proofs.Suffixes.{IsBehind, name-behind, count-behind, behind-sign}
 
@@ -51,24 +52,24 @@ module _ (at : ℕ) (steps steps' : List Step) (given : Result Piece Finding) wh
   name-fails kind stop.NoMemory text more e f = tt
   name-fails kind (stop.Found finding) text more e f = e ∙ ap (named at text (of_name kind)) f.1 ∙ ap (λ (x : Finding). Err x) (sym f.0)
 
-  pub attribute-read : (more rest inside : Bytes) (t : Test) → given ≡ attributed at more → inside ≡ within (standing (Square ∷ [])) more → rest ≡ drop (length inside + 1) more → Some t ≡ attribute inside
+  pub attribute-read : (more rest inside : Bytes) (t : Test) → given ≡ attributed at more → IsArgument Square more inside rest → Some t ≡ attribute inside
       → steps' ≡ steps ++ step.Keep t ∷ [] → ReadsTest steps steps' (square_open ∷ more) rest given
-  attribute-read more rest inside t e inside-is rest-is t-is steps-are =
-      let same : Some t ≡ attribute (within (standing (Square ∷ [])) more) = t-is ∙ ap attribute inside-is in
-      let one : attributed at more ≡ Ok (record { length = length (within (standing (Square ∷ [])) more) + 2; reading = keep t }) = rw (← same) refl in
+  attribute-read more rest inside t e a t-is steps-are =
+      let same : Some t ≡ attribute (within (standing (Square ∷ [])) more) = t-is ∙ ap attribute a.is in
+      let one : attributed at more ≡ Ok (record { length = length (within (standing (Square ∷ [])) more) + 2; reading = keep t }) = rw (a.closed, ← same) refl in
       record {
         test = t;
         length = length inside + 2;
-        is = e ∙ one ∙ ap (λ (v : Bytes). Ok (record { length = length v + 2; reading = keep t })) (sym inside-is);
+        is = e ∙ one ∙ ap (λ (v : Bytes). Ok (record { length = length v + 2; reading = keep t })) (sym a.is);
         some = omega arith;
-        rest_is = rest-is ∙ (let k : length inside + 2 ≡ suc (length inside + 1) = omega arith in ap (λ (m : ℕ). drop m (square_open ∷ more)) (sym k));
+        rest_is = a.rest_is ∙ (let k : length inside + 2 ≡ suc (length inside + 1) = omega arith in ap (λ (m : ℕ). drop m (square_open ∷ more)) (sym k));
         steps_are = steps-are;
       }
 
-  pub attribute-fails : (more inside : Bytes) → given ≡ attributed at more → inside ≡ within (standing (Square ∷ [])) more → None ≡ attribute inside → given ≡ bad cause.BadAttribute at
-  attribute-fails more inside e inside-is none =
-      let same : None ≡ attribute (within (standing (Square ∷ [])) more) = none ∙ ap attribute inside-is in
-      e ∙ rw (← same) refl
+  pub attribute-fails : (more inside rest : Bytes) → given ≡ attributed at more → IsArgument Square more inside rest → None ≡ attribute inside → given ≡ bad cause.BadAttribute at
+  attribute-fails more inside rest e a none =
+      let same : None ≡ attribute (within (standing (Square ∷ [])) more) = none ∙ ap attribute a.is in
+      e ∙ rw (a.closed, ← same) refl
 
 -- ---- by the first byte
 

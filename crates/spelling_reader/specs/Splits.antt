@@ -2,7 +2,7 @@
 use Rattle.std.specs.Prelude.{◌≡◌, ℕ, ◌+◌, ◌<◌, ◌≤◌, Bool, true, ◌&&◌, List, [], ◌∷◌, ◌++◌, length, take, drop, slice_index, Option, Some, None, IfSome, if◌then◌else◌}
 use Rattle.cos_source.specs.Spaces.{is_space}
 use Rattle.selector_spelling.specs.Bytes.{Bytes}
-use Rattle.selector_spelling.specs.Scan.{Scan, bare, is_bare, standing, step, within}
+use Rattle.selector_spelling.specs.Scan.{Scan, bare, is_bare, standing, step, within, is_closed}
 use Rattle.selector_spelling.specs.Cuts.{Part, parts_from, is_comma, is_sign}
 use Rattle.selector_spelling.specs.declared.open.Open.{Open}
 use Rattle.spelling_reader.specs.declared.cuts.Behind.{Behind}
@@ -65,6 +65,7 @@ pub record IsFirst (cut : Cut) (text : Bytes) (first : First) : Type 0 where
 
 -- what stands in a bracket, and what stands behind the closing one
 pub record IsArgument (opened : Open) (text inside rest : Bytes) : Type 0 where
+  pub closed : is_closed (standing (opened ∷ [])) text ≡ true
   pub is : inside ≡ within (standing (opened ∷ [])) text
   pub rest_is : rest ≡ drop (length inside + 1) text
   pub lengths : length inside + length rest ≤ length text

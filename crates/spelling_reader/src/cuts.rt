@@ -1,15 +1,19 @@
-ghost use Rattle.std.specs.Prelude.{◌≡◌, [], ◌∷◌, ◌+◌, length, drop, if◌then◌else◌, IfOk};
+ghost use Rattle.std.specs.Prelude.{◌≡◌, [], ◌∷◌, ◌+◌, length, drop, if◌then◌else◌, Result, IfOk, MatchResult};
 ghost use Rattle.cos_source.specs.Spaces.{is_space};
+ghost use Rattle.selector_spelling.specs.declared.finding.Finding.{Finding};
+ghost use Rattle.selector_spelling.specs.Pieces.{Piece, where_closed};
 ghost use Rattle.selector_spelling.specs.Scan.{bare, standing, unbalanced, too_nested, within};
 ghost use Rattle.spelling_reader.specs.Splits.{cuts, first_part, EndsPart, EndsArgument, IsFirst, IsArgument, text_after};
+ghost use Rattle.spelling_reader.specs.Stops.{Fails};
 
 use crate::scan::Scanner;
+use crate::stop::{Stop, bad};
 use cos_source::is_space;
-use selector_spelling::Open;
+use selector_spelling::{Cause, Open};
 use std::alloc::{AllocError, Global};
 
 /// Where a text is cut.
-#[derive(Debug, Clone, Copy, PartialEq, Eq)]
+#[derive(Clone, Copy)]
 pub(crate) enum Cut {
     /// Between chains.
     Comma,
@@ -154,21 +158,22 @@ pub(crate) fn first_part<'a>(
     })
 }
 
-/// What stands in a bracket, from behind it on, and what stands behind the closing one.
+/// What stands in a bracket of the piece at a place, from behind it on, and what stands behind the closing one.
 pub(crate) fn argument<'a>(
     alloc: Global,
     opened: Open,
     text: &'a str,
-) -> Result<(&'a str, &'a str), AllocError>
-    ensures { IfOk result (λ cut. IsArgument opened text.now cut.0.now cut.1.now) }
+    at: usize,
+) -> Result<(&'a str, &'a str), Stop>
+    ensures { MatchResult result (λ cut. IsArgument opened text.now cut.0.now cut.1.now)
+        (λ stop. (read : Result Piece Finding) → Fails stop (where_closed at opened text.now read)) }
 {
     let bytes = text.as_bytes();
     let length = argument_length(alloc, opened, bytes)?;
-    let front = text.split_at(length).0;
     if length == bytes.len() {
-        return Ok((front, ""));
+        return Err(bad(Cause::Unbalanced, at));
     }
-    Ok((front, text.split_at(length + 1).1))
+    Ok((text.split_at(length).0, text.split_at(length + 1).1))
 }
 
 /// The text behind the byte that a part was cut at.

@@ -1,12 +1,12 @@
 ghost use Rattle.std.specs.Prelude.{◌≡◌, ℕ, ◌+◌, ◌<◌, ◌≤◌, ◌-◌, true, length, take, drop, slice_index};
 ghost use Rattle.cos_source.specs.Spaces.{without_first_spaces, without_last_spaces, trimmed};
-ghost use Rattle.selector_spelling.specs.Bytes.{front, behind, begins_with, differs, is_blank, is_pseudo_byte};
+ghost use Rattle.selector_spelling.specs.Bytes.{front, behind, begins_with, differs, is_blank};
 ghost use Rattle.spelling_reader.specs.Fronts.{passes};
 
 use cos_source::is_space;
 
 /// A class of bytes.
-#[derive(Debug, Clone, Copy, PartialEq, Eq)]
+#[derive(Clone, Copy)]
 pub(crate) enum Class {
     /// Letters, digits and `-`.
     Pseudo,
@@ -20,17 +20,11 @@ pub(crate) enum Class {
     Space,
 }
 
-fn is_pseudo_byte(byte: u8) -> bool
-    ensures { result ≡ is_pseudo_byte byte }
-{
-    byte.is_ascii_alphanumeric() || byte == b'-'
-}
-
 fn passes(class: Class, byte: u8) -> bool
     ensures { result ≡ passes class byte }
 {
     match class {
-        Class::Pseudo => is_pseudo_byte(byte),
+        Class::Pseudo => byte.is_ascii_alphanumeric() || byte == b'-',
         Class::Digit => byte.is_ascii_digit(),
         Class::Letter => byte.is_ascii_alphabetic(),
         Class::Hex => byte.is_ascii_hexdigit(),

@@ -11,7 +11,7 @@ use listed::Text;
 use std::alloc::{AllocError, Global};
 
 /// Where a letter stands.
-#[derive(Debug, Clone, Copy, PartialEq, Eq)]
+#[derive(Clone, Copy)]
 pub(crate) enum Plain {
     /// In a name.
     InName,

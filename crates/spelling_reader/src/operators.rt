@@ -72,7 +72,7 @@ pub(crate) fn push_units(
 }
 
 /// What a text is looked for in.
-#[derive(Debug, Clone, Copy, PartialEq, Eq)]
+#[derive(Clone, Copy)]
 pub(crate) enum Searched {
     /// The text of an element.
     Text,

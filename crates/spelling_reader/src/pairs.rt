@@ -83,7 +83,7 @@ fn lower_name(alloc: Global, arg: Arg) -> Result<Arg, AllocError>
 }
 
 /// What a name and a value of an attribute are compared with.
-#[derive(Debug, Drop)]
+#[derive(Drop)]
 pub(crate) struct Pair {
     /// The name.
     pub name: Arg,

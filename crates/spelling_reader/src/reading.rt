@@ -353,7 +353,8 @@ fn read_pseudo<'a>(
         return Ok(behind);
     }
     let inside = split_behind(behind, 1).1;
-    let (argument, rest) = argument(alloc, opens(name.as_bytes(), inside.as_bytes()), inside)?;
+    let opened = opens(name.as_bytes(), inside.as_bytes());
+    let (argument, rest) = argument(alloc, opened, inside, at)?;
     let Some(operator) = operator_of(name.as_bytes()) else {
         return Err(bad(Cause::UnknownPseudo, at));
     };

@@ -5,7 +5,7 @@ use selector_spelling::{Cause, Finding};
 use std::alloc::AllocError;
 
 /// Why a reader stops.
-#[derive(Debug, Clone, Copy, PartialEq, Eq)]
+#[derive(Clone, Copy)]
 pub(crate) enum Stop {
     /// There was no memory.
     NoMemory,

@@ -19,7 +19,7 @@ use selector_tree::{Chain, Step, Test};
 use std::alloc::{AllocError, Global};
 
 /// What a name is the name of.
-#[derive(Debug, Clone, Copy, PartialEq, Eq)]
+#[derive(Clone, Copy)]
 pub(crate) enum Named {
     /// An id.
     Id,
@@ -68,7 +68,7 @@ fn push_attribute<'a>(
     ensures { (given : Result Piece Finding) → given ≡ attributed at text.now →
         MatchResult result (λ rest. ReadsTest steps.old steps.new (square_open ∷ text.now) rest.now given) (λ stop. Fails stop given) }
 {
-    let (inside, rest) = argument(alloc, Open::Square, text)?;
+    let (inside, rest) = argument(alloc, Open::Square, text, at)?;
     let Some(test) = attribute(alloc, inside)? else {
         return Err(bad(Cause::BadAttribute, at));
     };

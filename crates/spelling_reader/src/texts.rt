@@ -10,7 +10,7 @@ use selector_tree::Arg;
 use std::alloc::{AllocError, Global};
 
 /// Before which characters a `\` is dropped.
-#[derive(Debug, Clone, Copy, PartialEq, Eq)]
+#[derive(Clone, Copy)]
 pub(crate) enum Marks {
     /// Before `/`.
     BeforeSlash,

@@ -45,8 +45,9 @@ returns-in_ok-selector-in-None-clause-proper g c =
 
 pub returns-in_ok-selector-in-None-clause-numbers : goal.returns-in_ok-selector-in-None-clause-numbers
 returns-in_ok-selector-in-None-clause-numbers g c =
+    let pieces = pieces_read c.args.text.now c.in-Ok.chains (sym c.in_ok-chains.ensures ∙ c.in-Ok.is) in
     rw c.in_ok-selector-in-None.ensures
-    (ap (λ selector. Filter selector c.action_of-action.result) (sym (numbered_again c.put_asks.new.table.patterns c.in-Ok.chains.chains)))
+    (ap (λ selector. Filter selector c.action_of-action.result) (sym (numbered_again c.put_asks.new.table.patterns c.args.text.now c.in-Ok.chains pieces)))
 
 -- ---- places
 

@@ -1,16 +1,17 @@
 use Rattle.std.specs.Prelude.{is_none}
-use Rattle.std.proofs.Common.{◌≡◌, ◌+◌, ◌-◌, ◌<◌, ◌≤◌, Bool, true, false, eqb, ◌&&◌, List, [], ◌∷◌, ◌++◌, length, Option, Some, None, refl, sym, ap, subst, ◌∙◌, arith, rules}
+use Rattle.std.proofs.Common.{◌≡◌, ◌+◌, ◌-◌, ◌<◌, ◌≤◌, Bool, true, false, eqb, ◌&&◌, List, [], ◌∷◌, ◌++◌, length, Option, Some, None, Result, refl, sym, ap, subst, ◌∙◌, arith, rules}
 use Rattle.std.specs.Str.{str_to_ascii_lowercase}
 use Rattle.std.proofs.lemmas.Result.{err_from_is_err_and}
 use Rattle.selector_tree.specs.declared.selector.Place.{Place}
 use Rattle.selector_tree.specs.declared.selector.Step.{Step}
 use Rattle.selector_tree.specs.declared.selector.Step.TheVariants as step
+use Rattle.selector_spelling.specs.declared.finding.Finding.{Finding}
 use Rattle.selector_spelling.specs.declared.open.Open.{Open}
 use Rattle.selector_spelling.specs.declared.reading.Setting.{Setting}
 use Rattle.selector_spelling.specs.Bytes.{Bytes, begins_with, is_empty, colon, round_open}
 use Rattle.selector_spelling.specs.Names.{begins_name}
 use Rattle.selector_spelling.specs.Scan.{opens}
-use Rattle.selector_spelling.specs.Pieces.{pseudo, without_argument_reading, operator_of}
+use Rattle.selector_spelling.specs.Pieces.{Piece, where_closed, pseudo, without_argument_reading, operator_of}
 use Rattle.selector_spelling.specs.Texts.{place_of, argument, selector}
 use Rattle.cos_source.specs.Spaces.{without_first_spaces}
 use Rattle.spelling_reader.specs.declared.cuts.Behind.{Behind}
@@ -22,7 +23,7 @@ use Rattle.spelling_reader.proofs.Watched.{some_left}
 use Rattle.spelling_reader.proofs.SoFar.{SoFar, so_far_start}
 use Rattle.spelling_reader.proofs.SelectorLaws.{ChainsSoFar}
 use Rattle.spelling_reader.proofs.LoopLaws.{chains_left, chains_first, chains_next, chains_done, signs_next, signs_stop, chain_by_sign, chain_stop, chain_rest, words_start, words_missing, word_stop, word_done, word_next, piece_turn, piece_shorter, pieces_begin, trimmed_shorter, word_shorter, starts_some, reads_setting, fails_setting, reads_pieces, fails_pieces, none_from, empty-length}
-use Rattle.spelling_reader.proofs.PseudoLaws.{argument_result, test_result, pseudo_result, plain_stop, plain_read, unknown_stop, operator_stop, operator_read}
+use Rattle.spelling_reader.proofs.PseudoLaws.{argument_result, test_result, pseudo_result, plain_stop, plain_read, open_stop, unknown_stop, operator_stop, operator_read}
 use Rattle.spelling_reader.proofs.reading.+reading.Goals as goal
 
 pub read_argument-returns : goal.read_argument-returns
@@ -237,6 +238,23 @@ read_pseudo-returns-then-not-begins_with t c =
     let r = subst (λ (v : Bytes). Reads c.args.steps.now c.push_plain.new.steps c.args.notes.now c.push_plain.new.notes (without_argument_reading c.args.at (str_to_ascii_lowercase v))) c.as_bytes-then-not-begins_with.ensures.value c.in_ok-push_plain.ensures in
     plain_read (argument c.args.levels) c.args.setting c.args.first c.args.at text name rest other s.ensures.front s.ensures.back c.args.steps.now c.push_plain.new.steps c.args.notes.now c.push_plain.new.notes named bracket r
 
+pub read_pseudo-returns-in_err-argument : goal.read_pseudo-returns-in_err-argument
+read_pseudo-returns-in_err-argument t c =
+    let text = c.args.text.now in
+    let s = c.split_front in
+    let name = s.result.0.now in
+    let rest = s.result.1.now in
+    let inside = c.split_behind-2.result.1.now in
+    let e = c.in_err-argument in
+    let other : begins_with colon text ≡ false = ap (begins_with colon) (sym c.as_bytes.ensures.value) ∙ sym c.begins_with.ensures ∙ c.if-begins_with.false in
+    let named : begins_name name ≡ true = sym c.begins_name.ensures ∙ c.if-not-begins_name.false in
+    let bracket : begins_with round_open rest ≡ true = ap (begins_with round_open) (sym c.as_bytes-2.ensures.value) ∙ sym c.begins_with-2.ensures ∙ c.if-not-begins_with.false in
+    let lower = str_to_ascii_lowercase name in
+    let opened : c.opens-opened.result ≡ opens lower inside = c.opens-opened.ensures ∙ ap (λ (v : Bytes). opens (str_to_ascii_lowercase v) c.as_bytes-4.result.now) c.as_bytes-3.ensures.value ∙ ap (opens lower) c.as_bytes-4.ensures.value in
+    let fails = subst (λ (o : Open). (read : Result Piece Finding) → Fails e.field-0.0 (where_closed c.args.at o inside read)) opened e.ensures in
+    let p = err_from_is_err_and c.from_residual-in_err-argument.result c.from_residual-in_err-argument.ensures.1 in
+    rw (p.1, p.2) (open_stop (argument c.args.levels) c.args.setting c.args.first c.args.at text name rest other s.ensures.front s.ensures.back inside named bracket c.split_behind-2.ensures.back e.field-0.0 fails)
+
 pub read_pseudo-returns-in_default : goal.read_pseudo-returns-in_default
 read_pseudo-returns-in_default t c =
     let text = c.args.text.now in
@@ -250,7 +268,7 @@ read_pseudo-returns-in_default t c =
     let named : begins_name name ≡ true = sym c.begins_name.ensures ∙ c.if-not-begins_name.false in
     let bracket : begins_with round_open rest ≡ true = ap (begins_with round_open) (sym c.as_bytes-2.ensures.value) ∙ sym c.begins_with-2.ensures ∙ c.if-not-begins_with.false in
     let lower = str_to_ascii_lowercase name in
-    let opened : c.opens.result ≡ opens lower inside = c.opens.ensures ∙ ap (λ (v : Bytes). opens (str_to_ascii_lowercase v) c.as_bytes-4.result.now) c.as_bytes-3.ensures.value ∙ ap (opens lower) c.as_bytes-4.ensures.value in
+    let opened : c.opens-opened.result ≡ opens lower inside = c.opens-opened.ensures ∙ ap (λ (v : Bytes). opens (str_to_ascii_lowercase v) c.as_bytes-4.result.now) c.as_bytes-3.ensures.value ∙ ap (opens lower) c.as_bytes-4.ensures.value in
     let is = subst (λ (o : Open). IsArgument o inside a.argument.now a.rest.now) opened a.ensures in
     let none : operator_of lower ≡ None = ap (λ (v : Bytes). operator_of (str_to_ascii_lowercase v)) (sym c.as_bytes-5.ensures.value) ∙ sym c.in_default.ensures in
     let given = pseudo inner c.args.setting c.args.first c.args.at text in
@@ -271,7 +289,7 @@ read_pseudo-returns-in_err-read_operator t c =
     let named : begins_name name ≡ true = sym c.begins_name.ensures ∙ c.if-not-begins_name.false in
     let bracket : begins_with round_open rest ≡ true = ap (begins_with round_open) (sym c.as_bytes-2.ensures.value) ∙ sym c.begins_with-2.ensures ∙ c.if-not-begins_with.false in
     let lower = str_to_ascii_lowercase name in
-    let opened : c.opens.result ≡ opens lower inside = c.opens.ensures ∙ ap (λ (v : Bytes). opens (str_to_ascii_lowercase v) c.as_bytes-4.result.now) c.as_bytes-3.ensures.value ∙ ap (opens lower) c.as_bytes-4.ensures.value in
+    let opened : c.opens-opened.result ≡ opens lower inside = c.opens-opened.ensures ∙ ap (λ (v : Bytes). opens (str_to_ascii_lowercase v) c.as_bytes-4.result.now) c.as_bytes-3.ensures.value ∙ ap (opens lower) c.as_bytes-4.ensures.value in
     let is = subst (λ (o : Open). IsArgument o inside a.argument.now a.rest.now) opened a.ensures in
     let found : operator_of lower ≡ Some c.in-Some.operator = ap (λ (v : Bytes). operator_of (str_to_ascii_lowercase v)) (sym c.as_bytes-5.ensures.value) ∙ sym c.in-Some.ensures in
     let ends : c.is_empty.result ≡ is_empty a.rest.now = c.is_empty.ensures ∙ empty-length a.rest.now in
@@ -293,7 +311,7 @@ read_pseudo-returns t c =
     let named : begins_name name ≡ true = sym c.begins_name.ensures ∙ c.if-not-begins_name.false in
     let bracket : begins_with round_open rest ≡ true = ap (begins_with round_open) (sym c.as_bytes-2.ensures.value) ∙ sym c.begins_with-2.ensures ∙ c.if-not-begins_with.false in
     let lower = str_to_ascii_lowercase name in
-    let opened : c.opens.result ≡ opens lower inside = c.opens.ensures ∙ ap (λ (v : Bytes). opens (str_to_ascii_lowercase v) c.as_bytes-4.result.now) c.as_bytes-3.ensures.value ∙ ap (opens lower) c.as_bytes-4.ensures.value in
+    let opened : c.opens-opened.result ≡ opens lower inside = c.opens-opened.ensures ∙ ap (λ (v : Bytes). opens (str_to_ascii_lowercase v) c.as_bytes-4.result.now) c.as_bytes-3.ensures.value ∙ ap (opens lower) c.as_bytes-4.ensures.value in
     let is = subst (λ (o : Open). IsArgument o inside a.argument.now a.rest.now) opened a.ensures in
     let found : operator_of lower ≡ Some c.in-Some.operator = ap (λ (v : Bytes). operator_of (str_to_ascii_lowercase v)) (sym c.as_bytes-5.ensures.value) ∙ sym c.in-Some.ensures in
     let ends : c.is_empty.result ≡ is_empty a.rest.now = c.is_empty.ensures ∙ empty-length a.rest.now in
