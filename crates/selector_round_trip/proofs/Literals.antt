@@ -1,6 +1,6 @@
 -- Literals: their canonical text is read as the literal.
 use Rattle.std.proofs.Common.{◌≡◌, ℕ, Bool, true, false, eqb, ◌||◌, [], ◌∷◌, ◌++◌, Option, Some, None, if◌then◌else◌, refl, sym, ap, subst, ◌∙◌, append_assoc, inl, inr}
-use Rattle.std.proofs.lemmas.Bool.{cases_Bool, or_parts, or_cases, eq-eqb, eqb-true}
+use Rattle.std.proofs.lemmas.Bool.{both_ways, or_parts, or_cases, eq-eqb, eqb-true}
 use Rattle.std.specs.Char.{is_ascii_hexdigit}
 use Rattle.cos_source.specs.Spaces.{is_space, before_text, without_first_spaces, without_last_spaces, trimmed}
 use Rattle.selector_tree.specs.declared.selector.Arg.TheVariants as arg
@@ -12,7 +12,7 @@ use Rattle.selector_spelling.specs.Arguments.{last_is, without_last, unquoted, u
 use Rattle.selector_spelling.specs.Arguments as spelled
 use Rattle.selector_round_trip.proofs.Scanned.{IsKept, IsKept-nil, IsKept-append}
 use Rattle.selector_round_trip.proofs.NameScans.{calm_raw, raw_escaped}
-use Rattle.selector_round_trip.proofs.Names.{letter-marked, letter-plain}
+use Rattle.selector_round_trip.proofs.Names.{letter_cases}
 use Rattle.selector_round_trip.proofs.Bodies.{up_to-plain, up_to-paired}
 
 -- ---- trimming
@@ -76,30 +76,21 @@ marked_in P v w x y z b h =
 abbrev unmarked : Bool → Bytes → Bytes
 unmarked = unescaped spelled.is_marked
 
-unmarked-marked : (b : ℕ) (rest : Bytes) → is_marked Literal b ≡ true → unmarked false (92 ∷ b ∷ rest) ≡ b ∷ unmarked false rest
-unmarked-marked b rest h = marked_in (λ c. unmarked false (92 ∷ c ∷ rest) ≡ c ∷ unmarked false rest) refl refl refl refl refl b h
-
-unmarked-plain : (b : ℕ) (rest : Bytes) → eqb b 92 ≡ false → unmarked false (b ∷ rest) ≡ b ∷ unmarked false rest
-unmarked-plain b rest h = rw h refl
+-- a letter of a literal prints behind a `\`, or as it is
+pub literal_cases : (P : Bytes → Type 0) (b : ℕ) → (is_marked Literal b ≡ true → P (92 ∷ b ∷ [])) → (is_marked Literal b ≡ false → P (b ∷ [])) → P (letter Literal b)
+literal_cases P b marked plain = letter_cases Literal P b (λ h. absurd (both_ways false refl h)) (λ h k. marked k) (λ h k. plain k)
 
 pub unmarked_again : (text : Bytes) → unmarked false (letters Literal text) ≡ text
 unmarked_again [] = refl
 unmarked_again (b ∷ text) =
-    elim (cases_Bool (is_marked Literal b)) [
-      | inl marked ↦ ap (λ (v : Bytes). unmarked false (v ++ letters Literal text)) (letter-marked Literal b refl marked) ∙ unmarked-marked b (letters Literal text) marked ∙ ap (λ (t : Bytes). b ∷ t) (unmarked_again text)
-      | inr plain ↦ ap (λ (v : Bytes). unmarked false (v ++ letters Literal text)) (letter-plain Literal b refl plain) ∙ unmarked-plain b (letters Literal text) (plain_parts b plain).0 ∙ ap (λ (t : Bytes). b ∷ t) (unmarked_again text)
-    ]
-
-form_none : (b : ℕ) (text : Bytes) → eqb b 47 ≡ false → pattern_form (b ∷ text) ≡ None
-form_none b text h = rw h refl
+    let rest = letters Literal text in
+    let one : unmarked false (letter Literal b ++ rest) ≡ b ∷ unmarked false rest =
+    literal_cases (λ v. unmarked false (v ++ rest) ≡ b ∷ unmarked false rest) b (marked_in (λ c. unmarked false (92 ∷ c ∷ rest) ≡ c ∷ unmarked false rest) refl refl refl refl refl b) (λ h. rw (plain_parts b h).0 refl) in
+    one ∙ ap (λ (t : Bytes). b ∷ t) (unmarked_again text)
 
 no_form : (text : Bytes) → pattern_form (letters Literal text) ≡ None
 no_form [] = refl
-no_form (b ∷ text) =
-    elim (cases_Bool (is_marked Literal b)) [
-      | inl marked ↦ ap (λ (v : Bytes). pattern_form (v ++ letters Literal text)) (letter-marked Literal b refl marked)
-      | inr plain ↦ ap (λ (v : Bytes). pattern_form (v ++ letters Literal text)) (letter-plain Literal b refl plain) ∙ form_none b (letters Literal text) (plain_parts b plain).1
-    ]
+no_form (b ∷ text) = literal_cases (λ v. pattern_form (v ++ letters Literal text) ≡ None) b (λ h. refl) (λ h. rw (plain_parts b h).1 refl)
 
 -- the text of a literal is read as that literal
 pub literal_again : (text : Bytes) → spelled.text_argument (literal_text text) ≡ arg.Literal text
@@ -113,10 +104,7 @@ literal_again text =
 
 letter_raw : (b : ℕ) (rest : Bytes) → IsKept (Raw ∷ []) (letter Literal b) rest
 letter_raw b rest =
-    elim (cases_Bool (is_marked Literal b)) [
-      | inl marked ↦ subst (λ (v : Bytes). IsKept (Raw ∷ []) v rest) (sym (letter-marked Literal b refl marked)) (raw_escaped b rest (marked_in (λ c. is_ascii_hexdigit c ≡ false) refl refl refl refl refl b marked))
-      | inr plain ↦ (let p = plain_parts b plain in subst (λ (v : Bytes). IsKept (Raw ∷ []) v rest) (sym (letter-plain Literal b refl plain)) (calm_raw b rest p.0 p.3 p.4))
-    ]
+    literal_cases (λ v. IsKept (Raw ∷ []) v rest) b (λ h. raw_escaped b rest (marked_in (λ c. is_ascii_hexdigit c ≡ false) refl refl refl refl refl b h)) (λ h. (let p = plain_parts b h in calm_raw b rest p.0 p.3 p.4))
 
 letters_raw : (text rest : Bytes) → IsKept (Raw ∷ []) (letters Literal text) rest
 letters_raw [] rest = IsKept-nil (Raw ∷ []) rest
@@ -134,13 +122,10 @@ split front rest = Some (record { front = front; rest = rest })
 
 up_to-letter : (b : ℕ) (text : Bytes) → up_to 34 false (letter Literal b ++ text) ≡ (if is_marked Literal b then with_front 92 (with_front b (up_to 34 false text)) else with_front b (up_to 34 false text))
 up_to-letter b text =
-    elim (cases_Bool (is_marked Literal b)) [
-      | inl marked ↦ ap (λ (v : Bytes). up_to 34 false (v ++ text)) (letter-marked Literal b refl marked) ∙ ap (with_front 92) (up_to-paired 34 b text) ∙ ap (λ (c : Bool). if c then with_front 92 (with_front b (up_to 34 false text)) else with_front b (up_to 34 false text)) (sym marked)
-      | inr plain ↦ (
-          let p = plain_parts b plain in
-          ap (λ (v : Bytes). up_to 34 false (v ++ text)) (letter-plain Literal b refl plain) ∙ up_to-plain 34 b text p.2 ∙ ap (λ (c : Bool). with_front b (up_to 34 c text)) p.0
-          ∙ ap (λ (c : Bool). if c then with_front 92 (with_front b (up_to 34 false text)) else with_front b (up_to 34 false text)) (sym plain))
-    ]
+    let more = up_to 34 false text in
+    let both = λ (c : Bool). if c then with_front 92 (with_front b more) else with_front b more in
+    literal_cases (λ v. up_to 34 false (v ++ text) ≡ both (is_marked Literal b)) b (λ h. ap (with_front 92) (up_to-paired 34 b text) ∙ ap both (sym h))
+    (λ h. (let p = plain_parts b h in up_to-plain 34 b text p.2 ∙ ap (λ (c : Bool). with_front b (up_to 34 c text)) p.0 ∙ ap both (sym h)))
 
 front_letter : (c : Bool) (b : ℕ) (text rest : Bytes) → (if c then with_front 92 (with_front b (split text rest)) else with_front b (split text rest)) ≡ split ((if c then 92 ∷ b ∷ [] else b ∷ []) ++ text) rest
 front_letter true b text rest = refl

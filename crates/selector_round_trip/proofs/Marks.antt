@@ -14,7 +14,7 @@ use Rattle.selector_spelling.specs.Bytes.{Bytes, front, behind, is_quote}
 use Rattle.selector_spelling.specs.Arguments.{Slashed, Split, Pair, last_is, without_last, unquoted, holds_byte, are_flags, closing, pattern_form, slashed_or, text_argument, sought, up_to, with_front, with_letters, name_part, value_part, lower_name, attribute_pair}
 use Rattle.selector_round_trip.specs.Balanced.{closes, is_balanced, pair_balance}
 use Rattle.selector_round_trip.proofs.Classes.{apart}
-use Rattle.selector_round_trip.proofs.Names.{letter-marked, letter-plain}
+use Rattle.selector_round_trip.proofs.Literals.{literal_cases}
 use Rattle.selector_round_trip.proofs.Bodies.{unslashed, is_body, closed}
 use Rattle.selector_round_trip.proofs.Args.{IsArg, argument_read, pattern_text}
 use Rattle.selector_round_trip.proofs.Numbers.{then_some}
@@ -375,10 +375,7 @@ literal_flat b h = (
 
 letter_pass : (d b : ℕ) (rest : Bytes) → run (marks d false) (letter spelling.Literal b ++ rest) ≡ run (marks d false) rest
 letter_pass d b rest =
-    elim (cases_Bool (is_marked spelling.Literal b)) [
-      | inl marked ↦ ap (λ (v : Bytes). run (marks d false) (v ++ rest)) (letter-marked spelling.Literal b refl marked)
-      | inr plain ↦ ap (λ (v : Bytes). run (marks d false) (v ++ rest)) (letter-plain spelling.Literal b refl plain) ∙ flat_on d b rest (literal_flat b plain).0 (literal_flat b plain).1
-    ]
+    literal_cases (λ v. run (marks d false) (v ++ rest) ≡ run (marks d false) rest) b (λ h. refl) (λ h. (let p = literal_flat b h in flat_on d b rest p.0 p.1))
 
 letters_pass : (d : ℕ) (text rest : Bytes) → run (marks d false) (letters spelling.Literal text ++ rest) ≡ run (marks d false) rest
 letters_pass d [] rest = refl

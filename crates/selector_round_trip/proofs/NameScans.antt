@@ -1,5 +1,5 @@
 -- Scans pass over the text of a name and of a string.
-use Rattle.std.proofs.Common.{◌≡◌, ℕ, zero, ◌<◌, ◌/◌, ◌%◌, ltb, Bool, true, false, not, eqb, leb, ◌||◌, List, [], ◌∷◌, ◌++◌, Option, Some, None, refl, sym, ap, subst, ◌∙◌, append_assoc, arith, inl, inr}
+use Rattle.std.proofs.Common.{◌≡◌, ℕ, zero, ◌<◌, ◌/◌, ◌%◌, ltb, Bool, true, false, not, eqb, leb, ◌||◌, List, [], ◌∷◌, ◌++◌, Option, Some, None, refl, ap, ◌∙◌, append_assoc, arith, inl, inr}
 use Rattle.std.specs.Char.{is_ascii_hexdigit, digit_char}
 use Rattle.std.proofs.lemmas.Bool.{cases_Bool, or_cases, or_parts, and_parts, leb-true, eqb-true}
 use Rattle.selector_tree.specs.declared.letters.Spelling.TheVariants.{Quoted}
@@ -12,7 +12,7 @@ use Rattle.selector_spelling.specs.Names.{Taken, onto, quoted, string, character
 use Rattle.selector_spelling.specs.Names as spelled
 use Rattle.selector_round_trip.proofs.Scanned.{is_cut, over, over-append, is_kept, kept-append, IsClosed, IsClosed-nil, IsClosed-append, IsKept, IsKept-nil, IsKept-append}
 use Rattle.selector_round_trip.proofs.Classes.{apart, control_low}
-use Rattle.selector_round_trip.proofs.Names.{Passes, name_passes, numbered_passes, numbered-one, numbered-two, by_one, by_two, character-ascii, letter-numbered, letter-marked, letter-plain}
+use Rattle.selector_round_trip.proofs.Names.{Passes, name_passes, numbered_passes, numbered-one, numbered-two, by_one, by_two, character-ascii, letter_cases}
 
 -- a byte that no scan takes notice of
 abbrev pub is_calm : ℕ → Bool
@@ -98,15 +98,9 @@ is_marked_byte b h =
 
 letter_quoted : (b : ℕ) (rest : Bytes) → IsKept (DoubleQuote ∷ Square ∷ []) (letter Quoted b) rest
 letter_quoted b rest =
-    elim (cases_Bool (is_control b)) [
-      | inl by_number ↦ subst (λ (v : Bytes). IsKept (DoubleQuote ∷ Square ∷ []) v rest) (sym (letter-numbered Quoted b by_number)) (numbered_passes (IsKept (DoubleQuote ∷ Square ∷ [])) quote_passes b rest (control_low b by_number))
-      | inr other ↦ elim (cases_Bool (eqb b 34 || eqb b 92)) [
-        | inl marked ↦ subst (λ (v : Bytes). IsKept (DoubleQuote ∷ Square ∷ []) v rest) (sym (letter-marked Quoted b other marked)) (quote_passes.escaped b rest (is_marked_byte b marked))
-        | inr plain ↦ (
-            let p = or_parts (eqb b 34) (eqb b 92) plain in
-            subst (λ (v : Bytes). IsKept (DoubleQuote ∷ Square ∷ []) v rest) (sym (letter-plain Quoted b other plain)) (record { kept = refl; ends = rw (p.1, p.0) refl }))
-      ]
-    ]
+    let stack : List Open = DoubleQuote ∷ Square ∷ [] in
+    letter_cases Quoted (λ v. IsKept stack v rest) b (λ h. numbered_passes (IsKept stack) quote_passes b rest (control_low b h)) (λ h k. quote_passes.escaped b rest (is_marked_byte b k))
+    (λ h k. (let p = or_parts (eqb b 34) (eqb b 92) k in record { kept = refl; ends = rw (p.1, p.0) refl }))
 
 letters_quoted : (text rest : Bytes) → IsKept (DoubleQuote ∷ Square ∷ []) (letters Quoted text) rest
 letters_quoted [] rest = IsKept-nil (DoubleQuote ∷ Square ∷ []) rest
@@ -166,15 +160,8 @@ control_some b h =
 
 string-letter : (b : ℕ) (rest : Bytes) → string 34 zero (letter Quoted b ++ rest) ≡ with_byte b (string 34 zero rest)
 string-letter b rest =
-    elim (cases_Bool (is_control b)) [
-      | inl by_number ↦ ap (λ (v : Bytes). string 34 zero (v ++ rest)) (letter-numbered Quoted b by_number) ∙ string-numbered b rest (control_some b by_number) (control_low b by_number)
-      | inr other ↦ elim (cases_Bool (eqb b 34 || eqb b 92)) [
-        | inl marked ↦ ap (λ (v : Bytes). string 34 zero (v ++ rest)) (letter-marked Quoted b other marked) ∙ string-escaped b rest (is_marked_byte b marked)
-        | inr plain ↦ (
-            let p = or_parts (eqb b 34) (eqb b 92) plain in
-            ap (λ (v : Bytes). string 34 zero (v ++ rest)) (letter-plain Quoted b other plain) ∙ string-plain b rest p.0 p.1)
-      ]
-    ]
+    letter_cases Quoted (λ v. string 34 zero (v ++ rest) ≡ with_byte b (string 34 zero rest)) b (λ h. string-numbered b rest (control_some b h) (control_low b h)) (λ h k. string-escaped b rest (is_marked_byte b k))
+    (λ h k. (let p = or_parts (eqb b 34) (eqb b 92) k in string-plain b rest p.0 p.1))
 
 pub string_again : (text rest : Bytes) → string 34 zero (letters Quoted text ++ 34 ∷ rest) ≡ Some (record { value = text; rest = rest })
 string_again [] rest = refl

@@ -7,10 +7,10 @@ use Rattle.std.specs.List.{AllByRecursion}
 use Rattle.std.specs.Str.{str_to_ascii_lowercase}
 use Rattle.std.proofs.lemmas.Str.{encode_ascii}
 use Rattle.std.proofs.lemmas.Str.Ascii.{lowercase-lowercase, lowercase_is}
-use Rattle.std.proofs.lemmas.Bool.{cases_lt, cases_Bool, or_parts, lt-leb, le-ltb, ne_eqb, eqb-true, eqb-false, and_parts, both_ways, not-true}
+use Rattle.std.proofs.lemmas.Bool.{cases_lt, cases_Bool, or_parts, lt-leb, le-ltb, ne_eqb, eqb-true, eqb-false, and_parts, both_ways, not-true, not-false}
 use Rattle.selector_tree.specs.declared.letters.Spelling.{Spelling}
 use Rattle.selector_tree.specs.declared.letters.Spelling.TheVariants.{Name}
-use Rattle.selector_tree.specs.Letters.{is_digit, is_name_byte, is_control, hexadecimal, numbered, is_numbered, is_marked, letter, letters, begun, behind_dash, name_text}
+use Rattle.selector_tree.specs.Letters.{is_digit, is_name_byte, hexadecimal, numbered, is_numbered, is_marked, letter, letters, begun, behind_dash, name_text}
 use Rattle.selector_tree.proofs.Spelled.{encode-high}
 use Rattle.selector_spelling.specs.Bytes.{Bytes, front, is_empty, number, minus, backslash}
 use Rattle.selector_spelling.specs.Names.{Letter, Taken, onto, joined, run, name, character, escaped, letter_length, begins_name, begins_behind_minus, begins_letter}
@@ -86,36 +86,38 @@ run-numbered b rest some low =
           ap (λ (v : Bytes). run zero (v ++ rest)) (numbered-two b two) ∙ (run-two (digit_char (b / 16)) (digit_char (b % 16)) rest d.0 d.1 ∙ ap (λ (n : ℕ). onto (character n) (run zero rest)) d.2 ∙ ap (λ (v : Bytes). onto v (run zero rest)) (character-ascii b some low)))
     ]
 
--- how a letter prints
-pub letter-numbered : (s : Spelling) (b : ℕ) → is_numbered s b ≡ true → letter s b ≡ numbered b
-letter-numbered s b h = rw h refl
-
-pub letter-marked : (s : Spelling) (b : ℕ) → is_numbered s b ≡ false → is_marked s b ≡ true → letter s b ≡ backslash ∷ b ∷ []
-letter-marked s b h k = rw (h, k) refl
-
-pub letter-plain : (s : Spelling) (b : ℕ) → is_numbered s b ≡ false → is_marked s b ≡ false → letter s b ≡ b ∷ []
-letter-plain s b h k = rw (h, k) refl
-
--- a byte of a name is read as that byte
-run-letter : (b : ℕ) (rest : Bytes) → 0 < b → run zero (letter Name b ++ rest) ≡ onto (b ∷ []) (run zero rest)
-run-letter b rest some =
-    elim (cases_Bool (is_control b)) [
-      | inl by_number ↦ ap (λ (v : Bytes). run zero (v ++ rest)) (letter-numbered Name b by_number) ∙ run-numbered b rest some (control_low b by_number)
-      | inr other ↦ elim (cases_Bool (is_name_byte b)) [
-        | inl plain ↦ ap (λ (v : Bytes). run zero (v ++ rest)) (letter-plain Name b other (ap not plain)) ∙ run-plain b rest plain
-        | inr special ↦ ap (λ (v : Bytes). run zero (v ++ rest)) (letter-marked Name b other (ap not special)) ∙ run-escaped b rest (not_hex b special) (ne_eqb b 0 (λ e. omega arith))
+-- a letter prints by its number, behind a `\`, or as it is
+pub letter_cases : (s : Spelling) (P : Bytes → Type 0) (b : ℕ) → (is_numbered s b ≡ true → P (numbered b)) → (is_numbered s b ≡ false → is_marked s b ≡ true → P (backslash ∷ b ∷ []))
+    → (is_numbered s b ≡ false → is_marked s b ≡ false → P (b ∷ [])) → P (letter s b)
+letter_cases s P b by_number marked plain =
+    elim (cases_Bool (is_numbered s b)) [
+      | inl h ↦ (let e : letter s b ≡ numbered b = rw h refl in subst P (sym e) (by_number h))
+      | inr h ↦ elim (cases_Bool (is_marked s b)) [
+        | inl k ↦ (let e : letter s b ≡ backslash ∷ b ∷ [] = rw (h, k) refl in subst P (sym e) (marked h k))
+        | inr k ↦ (let e : letter s b ≡ b ∷ [] = rw (h, k) refl in subst P (sym e) (plain h k))
       ]
     ]
+
+-- in a name
+name_cases : (P : Bytes → Type 0) (b : ℕ) → (b < 128 → P (numbered b)) → (is_ascii_hexdigit b ≡ false → P (backslash ∷ b ∷ [])) → (is_name_byte b ≡ true → P (b ∷ [])) → P (letter Name b)
+name_cases P b by_number marked plain =
+    letter_cases Name P b (λ h. by_number (control_low b h)) (λ h k. marked (not_hex b (not-true (is_name_byte b) k))) (λ h k. plain (not-false (is_name_byte b) k))
 
 -- the first letter of a name
 abbrev first_letter : ℕ → Bytes
 first_letter b = if is_digit b then numbered b else letter Name b
 
-first-digit : (b : ℕ) → is_digit b ≡ true → first_letter b ≡ numbered b
-first-digit b h = ap (λ (c : Bool). if c then numbered b else letter Name b) h
+first_cases : (P : Bytes → Type 0) (b : ℕ) → (b < 128 → P (numbered b)) → (is_ascii_hexdigit b ≡ false → P (backslash ∷ b ∷ [])) → (is_name_byte b ≡ true → is_digit b ≡ false → P (b ∷ [])) → P (first_letter b)
+first_cases P b by_number marked plain =
+    elim (cases_Bool (is_digit b)) [
+      | inl digit ↦ subst P (ap (λ (c : Bool). if c then numbered b else letter Name b) (sym digit)) (by_number (digit_low b digit))
+      | inr other ↦ subst P (ap (λ (c : Bool). if c then numbered b else letter Name b) (sym other)) (name_cases P b by_number marked (λ h. plain h other))
+    ]
 
-first-other : (b : ℕ) → is_digit b ≡ false → first_letter b ≡ letter Name b
-first-other b h = ap (λ (c : Bool). if c then numbered b else letter Name b) h
+-- a byte of a name is read as that byte
+run-letter : (b : ℕ) (rest : Bytes) → 0 < b → run zero (letter Name b ++ rest) ≡ onto (b ∷ []) (run zero rest)
+run-letter b rest some =
+    name_cases (λ v. run zero (v ++ rest) ≡ onto (b ∷ []) (run zero rest)) b (run-numbered b rest some) (λ h. run-escaped b rest h (ne_eqb b 0 (λ e. omega arith))) (run-plain b rest)
 
 -- the text of a name that doesn't begin with a minus
 name-begun : (b : ℕ) (text : Bytes) → eqb b 45 ≡ false → name_text (b ∷ text) ≡ begun (b ∷ text)
@@ -126,10 +128,7 @@ name-dash b text h = ap (λ (c : Bool). if c then behind_dash text else begun (b
 
 run-first : (b : ℕ) (rest : Bytes) → 0 < b → run zero (first_letter b ++ rest) ≡ onto (b ∷ []) (run zero rest)
 run-first b rest some =
-    elim (cases_Bool (is_digit b)) [
-      | inl digit ↦ ap (λ (v : Bytes). run zero (v ++ rest)) (first-digit b digit) ∙ run-numbered b rest some (digit_low b digit)
-      | inr other ↦ ap (λ (v : Bytes). run zero (v ++ rest)) (first-other b other) ∙ run-letter b rest some
-    ]
+    first_cases (λ v. run zero (v ++ rest) ≡ onto (b ∷ []) (run zero rest)) b (run-numbered b rest some) (λ h. run-escaped b rest h (ne_eqb b 0 (λ e. omega arith))) (λ h k. run-plain b rest h)
 
 -- ---- a name
 
@@ -178,22 +177,9 @@ behind-numbered b rest =
 behind-plain : (b : ℕ) (rest : Bytes) → is_name_byte b ≡ true → is_digit b ≡ false → begins_behind_minus (b ∷ rest) ≡ true
 behind-plain b rest h k = rw (h, k) refl
 
-behind-letter : (b : ℕ) (rest : Bytes) → 0 < b → is_digit b ≡ false → begins_behind_minus (letter Name b ++ rest) ≡ true
-behind-letter b rest some other_digit =
-    elim (cases_Bool (is_control b)) [
-      | inl by_number ↦ ap (λ (v : Bytes). begins_behind_minus (v ++ rest)) (letter-numbered Name b by_number) ∙ behind-numbered b rest
-      | inr other ↦ elim (cases_Bool (is_name_byte b)) [
-        | inl plain ↦ ap (λ (v : Bytes). begins_behind_minus (v ++ rest)) (letter-plain Name b other (ap not plain)) ∙ behind-plain b rest plain other_digit
-        | inr special ↦ ap (λ (v : Bytes). begins_behind_minus (v ++ rest)) (letter-marked Name b other (ap not special)) ∙ escape_some b rest some
-      ]
-    ]
-
 behind-first : (b : ℕ) (rest : Bytes) → 0 < b → begins_behind_minus (first_letter b ++ rest) ≡ true
 behind-first b rest some =
-    elim (cases_Bool (is_digit b)) [
-      | inl digit ↦ ap (λ (v : Bytes). begins_behind_minus (v ++ rest)) (first-digit b digit) ∙ behind-numbered b rest
-      | inr other ↦ ap (λ (v : Bytes). begins_behind_minus (v ++ rest)) (first-other b other) ∙ behind-letter b rest some other
-    ]
+    first_cases (λ v. begins_behind_minus (v ++ rest) ≡ true) b (λ low. behind-numbered b rest) (λ h. escape_some b rest some) (behind-plain b rest)
 
 -- the first byte that a name prints: a name byte but a digit, or a backslash
 abbrev pub begins_text : ℕ → Bool
@@ -209,22 +195,11 @@ pub record Printed (text : Bytes) : Type 0 where
 printed-numbered : (b : ℕ) (rest : Bytes) → Printed (numbered b ++ rest)
 printed-numbered b rest = record { first = backslash; others = hexadecimal b ++ (32 ∷ rest); is = ap (λ (v : Bytes). backslash ∷ v) (append_assoc (hexadecimal b) (32 ∷ []) rest); begins = refl }
 
-printed-letter : (b : ℕ) (rest : Bytes) → is_digit b ≡ false → Printed (letter Name b ++ rest)
-printed-letter b rest other_digit =
-    elim (cases_Bool (is_control b)) [
-      | inl by_number ↦ subst (λ (v : Bytes). Printed (v ++ rest)) (sym (letter-numbered Name b by_number)) (printed-numbered b rest)
-      | inr other ↦ elim (cases_Bool (is_name_byte b)) [
-        | inl plain ↦ record { first = b; others = rest; is = ap (λ (v : Bytes). v ++ rest) (letter-plain Name b other (ap not plain)); begins = rw (plain, other_digit) refl }
-        | inr special ↦ record { first = backslash; others = b ∷ rest; is = ap (λ (v : Bytes). v ++ rest) (letter-marked Name b other (ap not special)); begins = refl }
-      ]
-    ]
-
 printed-begun : (b : ℕ) (text : Bytes) → Printed (begun (b ∷ text))
 printed-begun b text =
-    elim (cases_Bool (is_digit b)) [
-      | inl digit ↦ subst (λ (v : Bytes). Printed (v ++ letters Name text)) (sym (first-digit b digit)) (printed-numbered b (letters Name text))
-      | inr other ↦ subst (λ (v : Bytes). Printed (v ++ letters Name text)) (sym (first-other b other)) (printed-letter b (letters Name text) other)
-    ]
+    let rest = letters Name text in
+    first_cases (λ v. Printed (v ++ rest)) b (λ low. printed-numbered b rest) (λ h. record { first = backslash; others = b ∷ rest; is = refl; begins = refl })
+    (λ h k. record { first = b; others = rest; is = refl; begins = rw (h, k) refl })
 
 printed-dash : (text : Bytes) → Printed (behind_dash text)
 printed-dash [] = record { first = backslash; others = 45 ∷ []; is = refl; begins = refl }
@@ -242,22 +217,8 @@ abbrev not_minus_first : Bytes → Bool
 not_minus_first [] = true
 not_minus_first (b ∷ text) = not (eqb b 45)
 
-not_minus-letter : (b : ℕ) (rest : Bytes) → eqb b 45 ≡ false → not_minus_first (letter Name b ++ rest) ≡ true
-not_minus-letter b rest other_minus =
-    elim (cases_Bool (is_control b)) [
-      | inl by_number ↦ ap (λ (v : Bytes). not_minus_first (v ++ rest)) (letter-numbered Name b by_number)
-      | inr other ↦ elim (cases_Bool (is_name_byte b)) [
-        | inl plain ↦ ap (λ (v : Bytes). not_minus_first (v ++ rest)) (letter-plain Name b other (ap not plain)) ∙ ap not other_minus
-        | inr special ↦ ap (λ (v : Bytes). not_minus_first (v ++ rest)) (letter-marked Name b other (ap not special))
-      ]
-    ]
-
 first_not_minus : (b : ℕ) (rest : Bytes) → eqb b 45 ≡ false → not_minus_first (first_letter b ++ rest) ≡ true
-first_not_minus b rest other_minus =
-    elim (cases_Bool (is_digit b)) [
-      | inl digit ↦ ap (λ (v : Bytes). not_minus_first (v ++ rest)) (first-digit b digit)
-      | inr other ↦ ap (λ (v : Bytes). not_minus_first (v ++ rest)) (first-other b other) ∙ not_minus-letter b rest other_minus
-    ]
+first_not_minus b rest other = first_cases (λ v. not_minus_first (v ++ rest) ≡ true) b (λ low. refl) (λ h. refl) (λ h k. ap not other)
 
 not_minus : (text : Bytes) → not_minus_first text ≡ true → begins_name text ≡ begins_behind_minus text
 not_minus [] h = refl
@@ -320,14 +281,7 @@ module _ (P : Bytes → Bytes → Type 0) (passes : Passes P) where
 
   module _ (plain : (b : ℕ) (rest : Bytes) → is_name_byte b ≡ true → P (b ∷ []) rest) where
     letter_passes : (b : ℕ) (rest : Bytes) → P (letter Name b) rest
-    letter_passes b rest =
-        elim (cases_Bool (is_control b)) [
-          | inl by_number ↦ subst (λ (v : Bytes). P v rest) (sym (letter-numbered Name b by_number)) (numbered_passes b rest (control_low b by_number))
-          | inr other ↦ elim (cases_Bool (is_name_byte b)) [
-            | inl is_plain ↦ subst (λ (v : Bytes). P v rest) (sym (letter-plain Name b other (ap not is_plain))) (plain b rest is_plain)
-            | inr special ↦ subst (λ (v : Bytes). P v rest) (sym (letter-marked Name b other (ap not special))) (passes.escaped b rest (not_hex b special))
-          ]
-        ]
+    letter_passes b rest = name_cases (λ v. P v rest) b (numbered_passes b rest) (passes.escaped b rest) (plain b rest)
 
     letters_pass : (text rest : Bytes) → P (letters Name text) rest
     letters_pass [] rest = passes.nil rest
@@ -335,11 +289,8 @@ module _ (P : Bytes → Bytes → Type 0) (passes : Passes P) where
 
     begun_passes : (b : ℕ) (text rest : Bytes) → P (begun (b ∷ text)) rest
     begun_passes b text rest =
-        passes.append (first_letter b) (letters Name text) rest (
-        elim (cases_Bool (is_digit b)) [
-          | inl digit ↦ subst (λ (v : Bytes). P v (letters Name text ++ rest)) (sym (first-digit b digit)) (numbered_passes b (letters Name text ++ rest) (digit_low b digit))
-          | inr other ↦ subst (λ (v : Bytes). P v (letters Name text ++ rest)) (sym (first-other b other)) (letter_passes b (letters Name text ++ rest))
-        ]) (letters_pass text rest)
+        let more = letters Name text ++ rest in
+        passes.append (first_letter b) (letters Name text) rest (first_cases (λ v. P v more) b (numbered_passes b more) (passes.escaped b more) (λ h k. plain b more h)) (letters_pass text rest)
 
     dash_passes : (text rest : Bytes) → P (behind_dash text) rest
     dash_passes [] rest = passes.escaped 45 rest refl

@@ -1,5 +1,5 @@
 -- Numbers: their canonical texts are read as the numbers.
-use Rattle.std.proofs.Common.{◌≡◌, ℕ, ℤ, pos, negsuc, zero, suc, ◌+◌, ◌*◌, ◌/◌, ◌%◌, ◌^◌, ◌<◌, ◌≤◌, Bool, true, false, not, eqb, leb, ◌&&◌, ◌||◌, [], ◌∷◌, ◌++◌, length, codes, Option, Some, None, if◌then◌else◌, refl, sym, ap, ap₂, subst, ◌∙◌, append-nil, arith, inl, inr}
+use Rattle.std.proofs.Common.{◌≡◌, ℕ, ℤ, pos, negsuc, zero, suc, ◌+◌, ◌*◌, ◌/◌, ◌%◌, ◌^◌, ◌<◌, ◌≤◌, Bool, true, false, not, eqb, leb, ◌&&◌, ◌||◌, [], ◌∷◌, ◌++◌, length, codes, Option, Some, None, IfSome, if◌then◌else◌, refl, sym, ap, ap₂, subst, ◌∙◌, append-nil, arith, inl, inr}
 use Rattle.std.specs.Prelude.{option_and_then}
 use Rattle.std.specs.Fmt.{decimal, signed_decimal}
 use Rattle.std.specs.List.{list_all}
@@ -7,7 +7,7 @@ use Rattle.std.specs.Char.{is_ascii_digit, digit_value, to_ascii_lowercase}
 use Rattle.std.specs.Str.{bytes_eq, str_to_ascii_lowercase}
 use Rattle.std.proofs.lemmas.Fmt.{decimal_by_steps, length-decimal-le}
 use Rattle.std.proofs.lemmas.List.Folds.{list_all-append}
-use Rattle.std.proofs.lemmas.Bool.{agree_below_at, cases_lt, lt-leb, cases_Bool, or_from, ne_eqb, eqb-true, not-true, both_ways, and_parts, and_from, and_right, le-leb, leb-true}
+use Rattle.std.proofs.lemmas.Bool.{agree_below_at, cases_lt, lt-leb, or_from, ne_eqb, eqb-true, not-true, both_ways, and_parts, and_from, and_right, le-leb, leb-true}
 use Rattle.cos_source.specs.Spaces.{is_space, before_text, without_first_spaces, without_last_spaces, trimmed}
 use Rattle.selector_tree.specs.Canonical.{offset_text}
 use Rattle.selector_spelling.specs.declared.open.Open.TheVariants.{Raw, Round}
@@ -293,17 +293,26 @@ pub some_cond : {A : Type 0} (c : Bool) (x y : A) → (if c then Some x else Non
 some_cond true x y h = (refl, cc)
 some_cond false x y h = absurd (let w : None ≡ Some y = h in cc)
 
-digits_small : (text : Bytes) (n : ℕ) → digits text ≡ Some n → n ≤ 1000000
-digits_small text n h =
-    let p = some_cond (is_number text && leb (number 10 text) 1000000) (number 10 text) n h in
-    let q = and_parts (is_number text) (leb (number 10 text) 1000000) p.0 in
-    let r = leb-true (number 10 text) 1000000 q.1 in
-    let e = p.1 in
-    omega arith
+-- what holds of what is there
+on_cond : {A : Type 0} (P : A → Type 0) (c : Bool) (x y : Option A) → (c ≡ true → IfSome x P) → IfSome y P → IfSome (if c then x else y) P
+on_cond P true x y h g = h refl
+on_cond P false x y h g = g
 
-or_one_small : (text : Bytes) (n : ℕ) → digits_or_one text ≡ Some n → n ≤ 1000000
-or_one_small [] n h = (let e : 1 ≡ n = cc in omega arith)
-or_one_small (b ∷ text) n h = digits_small (b ∷ text) n h
+on_then : {A B : Type 0} (P : A → Type 0) (Q : B → Type 0) (o : Option A) (f : A → Option B) → IfSome o P → ((x : A) → P x → IfSome (f x) Q) → IfSome (option_and_then f o) Q
+on_then P Q None f h g = tt
+on_then P Q (Some x) f h g = g x h
+
+on_value : {A : Type 0} (P : A → Type 0) (o : Option A) (x : A) → IfSome o P → o ≡ Some x → P x
+on_value {A = A} P o x h e = subst (λ (a : Option A). IfSome a P) e h
+
+digits_small : (text : Bytes) → IfSome (digits text) (λ n. n ≤ 1000000)
+digits_small text =
+    let n = number 10 text in
+    on_cond (λ m. m ≤ 1000000) (is_number text && leb n 1000000) (Some n) None (λ h. leb-true n 1000000 (and_parts (is_number text) (leb n 1000000) h).1) tt
+
+or_one_small : (text : Bytes) → IfSome (digits_or_one text) (λ n. n ≤ 1000000)
+or_one_small [] = omega arith
+or_one_small (b ∷ text) = digits_small (b ∷ text)
 
 negated_small : (n : ℕ) → n ≤ 1000000 → IsSmall (negated n)
 negated_small zero h = omega arith
@@ -313,80 +322,43 @@ signed_small : (negative : Bool) (n : ℕ) → n ≤ 1000000 → IsSmall (signed
 signed_small true n h = negated_small n h
 signed_small false n h = h
 
-int_same : (x y : ℤ) → ◌≡◌ {A = Option ℤ} (Some x) (Some y) → IsSmall x → IsSmall y
-int_same x y e h = let f : x ≡ y = cc in subst IsSmall f h
+offset_small : (text : Bytes) → IfSome (offset text) IsSmall
+offset_small text = on_then (λ n. n ≤ 1000000) IsSmall (digits (without_first_spaces (unsigned text))) _ (digits_small (without_first_spaces (unsigned text))) (λ n h. signed_small (begins_minus text) n h)
 
-offset_small : (text : Bytes) (z : ℤ) → offset text ≡ Some z → IsSmall z
-offset_small text z h =
-    let t = then_some (digits (without_first_spaces (unsigned text))) (λ (n : ℕ). some_int (signed (begins_minus text) n)) z h in
-    int_same (signed (begins_minus text) t.value) z t.gives (signed_small (begins_minus text) t.value (digits_small (without_first_spaces (unsigned text)) t.value t.is))
-
-behind_n_small : (text : Bytes) (z : ℤ) → behind_n text ≡ Some z → IsSmall z
-behind_n_small [] z h = int_same (pos 0) z h (omega arith)
-behind_n_small (b ∷ text) z h =
-    let rest = without_first_spaces (b ∷ text) in
-    elim (cases_Bool (begins_sign rest)) [
-      | inl signs ↦ offset_small rest z (sym (ap (λ (c : Bool). if c then offset rest else None) signs) ∙ h)
-      | inr none ↦ absurd (let w : None ≡ Some z = sym (ap (λ (c : Bool). if c then offset rest else None) none) ∙ h in cc)
-    ]
+behind_n_small : (text : Bytes) → IfSome (behind_n text) IsSmall
+behind_n_small [] = omega arith
+behind_n_small (b ∷ text) = (let rest = without_first_spaces (b ∷ text) in on_cond IsSmall (begins_sign rest) (offset rest) None (λ h. offset_small rest) tt)
 
 abbrev pub IsSmallNth : Nth → Type 0
 IsSmallNth v = IsSmall v.a × IsSmall v.b
 
-nth_same : (x y : Nth) → ◌≡◌ {A = Option Nth} (Some x) (Some y) → IsSmallNth x → IsSmallNth y
-nth_same x y e h = let f : x ≡ y = cc in subst IsSmallNth f h
+with_n_small : (text rest : Bytes) → IfSome (with_n text rest) IsSmallNth
+with_n_small text rest =
+    on_then (λ n. n ≤ 1000000) IsSmallNth (digits_or_one (front is_ascii_digit (unsigned text))) _ (or_one_small (front is_ascii_digit (unsigned text))) (λ n h.
+    on_then IsSmall IsSmallNth (behind_n rest) _ (behind_n_small rest) (λ z g. (signed_small (begins_minus text) n h, g)))
 
-with_n_small : (text rest : Bytes) (v : Nth) → with_n text rest ≡ Some v → IsSmallNth v
-with_n_small text rest v h =
-    let t = then_some (digits_or_one (front is_ascii_digit (unsigned text))) (λ (a : ℕ). option_and_then (λ (c : ℤ). nth_some (signed (begins_minus text) a) c) (behind_n rest)) v h in
-    let u = then_some (behind_n rest) (λ (c : ℤ). nth_some (signed (begins_minus text) t.value) c) v t.gives in
-    nth_same (record { a = signed (begins_minus text) t.value; b = u.value }) v u.gives
-    (signed_small (begins_minus text) t.value (or_one_small (front is_ascii_digit (unsigned text)) t.value t.is), behind_n_small rest u.value u.is)
-
-by_rest_small : (text rest : Bytes) (v : Nth) → by_rest text rest ≡ Some v → IsSmallNth v
-by_rest_small text [] v h =
-    let t = then_some (digits (unsigned text)) (λ (n : ℕ). nth_some (pos 0) (signed (begins_minus text) n)) v h in
-    nth_same (record { a = pos 0; b = signed (begins_minus text) t.value }) v t.gives (omega arith, signed_small (begins_minus text) t.value (digits_small (unsigned text) t.value t.is))
-by_rest_small text (c ∷ rest) v h =
-    elim (cases_Bool (eqb c 110)) [
-      | inl is ↦ with_n_small text rest v (sym (ap (λ (x : Bool). if x then with_n text rest else None) is) ∙ h)
-      | inr other ↦ absurd (let w : None ≡ Some v = sym (ap (λ (x : Bool). if x then with_n text rest else None) other) ∙ h in cc)
-    ]
-
-abbrev OnSmall : Option Nth → Type 0
-OnSmall None = Unit {0}
-OnSmall (Some v) = IsSmallNth v
-
-nth_cond : (c : Bool) (x y : Option Nth) → OnSmall x → OnSmall y → OnSmall (if c then x else y)
-nth_cond true x y h g = h
-nth_cond false x y h g = g
-
-on_small : (o : Option Nth) → ((v : Nth) → o ≡ Some v → IsSmallNth v) → OnSmall o
-on_small None h = tt
-on_small (Some v) h = h v refl
+by_rest_small : (text rest : Bytes) → IfSome (by_rest text rest) IsSmallNth
+by_rest_small text [] = on_then (λ n. n ≤ 1000000) IsSmallNth (digits (unsigned text)) _ (digits_small (unsigned text)) (λ n h. (omega arith, signed_small (begins_minus text) n h))
+by_rest_small text (c ∷ rest) = on_cond IsSmallNth (eqb c 110) (with_n text rest) None (λ h. with_n_small text rest) tt
 
 pub nth_small : (text : Bytes) (v : Nth) → nth text ≡ Some v → IsSmallNth v
 nth_small text v h =
     let t = str_to_ascii_lowercase (trimmed text) in
     let rest = behind is_ascii_digit (unsigned t) in
-    subst OnSmall h (nth_cond (bytes_eq t (codes "odd")) _ _ (omega arith, omega arith) (nth_cond (bytes_eq t (codes "even")) _ _ (omega arith, omega arith) (on_small (by_rest t rest) (by_rest_small t rest))))
+    on_value IsSmallNth (nth text) v (on_cond IsSmallNth (bytes_eq t (codes "odd")) _ _ (λ e. (omega arith, omega arith))
+    (on_cond IsSmallNth (bytes_eq t (codes "even")) _ (by_rest t rest) (λ e. (omega arith, omega arith)) (by_rest_small t rest))) h
 
 pub units_small : (text : Bytes) (n : ℕ) → text_units text ≡ Some n → n < 2 ^ 32
 units_small text n h =
-    let p = some_cond (is_number text && leb (length text) 10 && leb (number 10 text) 4294967295) (number 10 text) n h in
-    let q = and_parts (is_number text && leb (length text) 10) (leb (number 10 text) 4294967295) p.0 in
-    let r = leb-true (number 10 text) 4294967295 q.1 in
-    let e = p.1 in
-    omega arith
+    let m = number 10 text in
+    on_value (λ k. k < 2 ^ 32) (text_units text) n (on_cond (λ k. k < 2 ^ 32) (is_number text && leb (length text) 10 && leb m 4294967295) (Some m) None
+    (λ e. (let r = leb-true m 4294967295 (and_parts (is_number text && leb (length text) 10) (leb m 4294967295) e).1 in omega arith)) tt) h
 
 pub degree_small : (text : Bytes) (n : ℕ) → degree text ≡ Some n → (0 < n) × (n < 256)
 degree_small text n h =
-    let p = some_cond (leb 1 (number 10 text) && leb (number 10 text) 255) (number 10 text) n h in
-    let q = and_parts (leb 1 (number 10 text)) (leb (number 10 text) 255) p.0 in
-    let r = leb-true 1 (number 10 text) q.0 in
-    let s = leb-true (number 10 text) 255 q.1 in
-    let e = p.1 in
-    (omega arith, omega arith)
+    let m = number 10 text in
+    on_value (λ k. (0 < k) × (k < 256)) (degree text) n (on_cond (λ k. (0 < k) × (k < 256)) (leb 1 m && leb m 255) (Some m) None
+    (λ e. (let q = and_parts (leb 1 m) (leb m 255) e in let r = leb-true 1 m q.0 in let s = leb-true m 255 q.1 in (omega arith, omega arith))) tt) h
 
 -- ---- scans of such arguments
 
