@@ -1,19 +1,20 @@
 -- The first part of a text, and an argument, as slices.
 use denote.Ref.{Bor}
-use Rattle.std.proofs.Common.{◌≡◌, ℕ, ◌+◌, ◌<◌, Bool, true, false, [], ◌∷◌, ◌++◌, length, get_or, take, drop, Some, None, Result, if◌then◌else◌, sym, ap, ◌∙◌, arith, inl, inr}
+use Rattle.std.proofs.Common.{◌≡◌, ℕ, ◌+◌, ◌<◌, Bool, true, false, [], ◌∷◌, ◌++◌, length, get_or, take, drop, Some, None, Result, if◌then◌else◌, refl, sym, ap, ◌∙◌, arith, inl, inr}
+use Rattle.std.specs.List.{list_any}
 use Rattle.std.specs.Str.{IsUtf8, IsCharBoundary}
 use Rattle.std.proofs.lemmas.List.{take_all, append-nil, take-append-drop, drop_more, length-take-le, length-drop}
-use Rattle.std.proofs.lemmas.Bool.{cases_Bool, ltb-true, lt-ltb}
+use Rattle.std.proofs.lemmas.Bool.{cases_Bool, ltb-true, lt-ltb, or_parts, and_right}
 use Rattle.std.proofs.lemmas.Str.{IsCharBoundary-after_ascii}
 use Rattle.selector_spelling.specs.Bytes.{Bytes}
-use Rattle.selector_spelling.specs.Scan.{bare, standing, within, is_closed}
+use Rattle.selector_spelling.specs.Scan.{Scan, bare, is_bare, step, standing, within, is_closed}
 use Rattle.selector_spelling.specs.Pieces.{bad, Piece, where_closed}
 use Rattle.selector_spelling.specs.declared.finding.Cause.TheVariants as cause
 use Rattle.selector_spelling.specs.declared.finding.Finding.{Finding}
 use Rattle.selector_spelling.specs.Cuts.{Part, parts_from}
 use Rattle.selector_spelling.specs.declared.open.Open.{Open}
 use Rattle.spelling_reader.specs.declared.cuts.Cut.{Cut}
-use Rattle.spelling_reader.specs.Splits.{cuts, EndsPart, EndsArgument, IsFirst, IsArgument}
+use Rattle.spelling_reader.specs.Splits.{cuts, first_part, EndsPart, EndsArgument, IsFirst, IsArgument}
 use Rattle.spelling_reader.proofs.CutLaws.{cuts-separate, parts-last, parts-first}
 
 abbrev part : ℕ → ℕ → Bytes → Part
@@ -46,6 +47,22 @@ is-first cut text n b front rest ends lt front-is rest-is b-is =
           ∙ ap (λ (k : ℕ). part sign at front.now ∷ parts_from p bare b (at + k + 1) (drop (n + 1) text)) (sym count)
           ∙ ap (λ (v : Bytes). part sign at front.now ∷ parts_from p bare b (at + length front.now + 1) v) (sym rest-is);
     }
+
+-- ---- a text that is cut nowhere
+
+uncut-part : (p : ℕ → Bool) (s : Scan) (text : Bytes) → list_any p text ≡ false → first_part p s text ≡ text
+uncut-part p s [] h = refl
+uncut-part p s (b ∷ text) h =
+    let q = or_parts (p b) (list_any p text) h in
+    let more = first_part p (step s b text) text in
+    ap (λ (c : Bool). if c then [] else b ∷ more) (and_right (is_bare s) (p b) q.0) ∙ ap (λ (t : Bytes). b ∷ t) (uncut-part p (step s b text) text q.1)
+
+pub is-uncut : (cut : Cut) (text : Bytes) → list_any (cuts cut) text ≡ false → EndsPart cut text (length text)
+is-uncut cut text h = record {
+  most = omega arith;
+  front = uncut-part (cuts cut) bare text h ∙ sym (take_all (length text) text (omega arith));
+  passes = λ (lt : length text < length text). absurd (omega (arith, lt));
+}
 
 -- ---- an argument, and whether a bracket closes it
 

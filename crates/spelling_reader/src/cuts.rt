@@ -1,4 +1,5 @@
 ghost use Rattle.std.specs.Prelude.{◌≡◌, [], ◌∷◌, ◌+◌, length, drop, if◌then◌else◌, Result, IfOk, MatchResult};
+ghost use Rattle.std.specs.List.{list_any};
 ghost use Rattle.cos_source.specs.Spaces.{is_space};
 ghost use Rattle.selector_spelling.specs.declared.finding.Finding.{Finding};
 ghost use Rattle.selector_spelling.specs.Pieces.{Piece, where_closed};
@@ -80,10 +81,20 @@ pub(crate) fn too_nested(alloc: Global, text: &[u8]) -> Result<Option<usize>, Al
     Ok(None)
 }
 
-/// How long what stands before the first bare byte is at which a text is cut.
+/// Whether a text has a byte at which it may be cut.
+fn may_cut(cut: Cut, text: &[u8]) -> bool
+    ensures { result ≡ list_any (cuts cut) text.now }
+{
+    text.iter().any(|byte| cuts(cut, *byte))
+}
+
+/// How long what stands before the first bare byte is at which a text is cut. Most texts have no such byte and need no scan.
 fn part_length(alloc: Global, cut: Cut, text: &[u8]) -> Result<usize, AllocError>
     ensures { IfOk result (EndsPart cut text.now) }
 {
+    if !may_cut(cut, text) {
+        return Ok(text.len());
+    }
     let mut scanner = Scanner::new(alloc);
     let mut at = 0;
     while at < text.len() {
