@@ -10,8 +10,6 @@
 mod asks;
 mod numbering;
 mod read;
-#[cfg(test)]
-mod tests;
 
 pub use read::{Read, read_selector};
 pub use selector_spelling::{Cause, Kind};

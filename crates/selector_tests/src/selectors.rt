@@ -1,17 +1,17 @@
 // Texts of selectors, with what each is read as.
 
-use crate::Cause::{
+use Want::{Aside, Bad, Is, Same};
+use cos_patterns::{Calls, CrateMaker, ListedMaker, PatternTable};
+use selector_parser::Cause::{
     ActionInList, ActionNotLast, BadAttribute, BadName, BadNumber,
     BadOperatorArgument as BadArgument, BadPattern, EmptyPart, OthersNested, PatternTooLarge,
     TooNested, Unbalanced, UnknownPseudo,
 };
-use crate::Kind::{
+use selector_parser::Kind::{
     AbpProperties, MatchesCss, MatchesMedia, MatchesProp, PseudoElement, RemoveAttr, RemoveClass,
     Shadow, State, Style, Xpath,
 };
-use crate::{Cause, Kind, Read, read_selector};
-use Want::{Aside, Bad, Is, Same};
-use cos_patterns::{Calls, CrateMaker, ListedMaker, PatternTable};
+use selector_parser::{Cause, Kind, Read, read_selector};
 use selector_tree::canonical;
 use std::alloc::{AllocError, Global};
 use std::test::Fail;
