@@ -24,9 +24,6 @@ with_pair false text = text
 unslashed-true : (b : ℕ) (text : Bytes) → eqb b 47 ≡ false → unslashed true (b ∷ text) ≡ 92 ∷ b ∷ unslashed false text
 unslashed-true b text h = rw h refl
 
-unslashed-pair : (text : Bytes) → unslashed false (92 ∷ 47 ∷ text) ≡ 47 ∷ unslashed false text
-unslashed-pair text = refl
-
 body_text-slash : (b : ℕ) (text : Bytes) → eqb b 47 ≡ true → body_text false (b ∷ text) ≡ 92 ∷ 47 ∷ body_text false text
 body_text-slash b text h = let e : b ≡ 47 = eqb-true b 47 h in ap (λ (c : ℕ). body_text false (c ∷ text)) e
 

@@ -1,6 +1,6 @@
 -- Classes of bytes: what a test says of each byte, by computing below 128.
 use Rattle.std.proofs.Common.{◌≡◌, ℕ, ◌<◌, ◌≤◌, Bool, true, false, not, eqb, leb, ◌||◌, refl, sym, ap, ◌∙◌, arith, inl, inr}
-use Rattle.std.specs.Char.{is_ascii_digit, is_ascii_hexdigit}
+use Rattle.std.specs.Char.{is_ascii_hexdigit}
 use Rattle.std.proofs.lemmas.Bool.{agree_below, cases_lt, cases_Bool, or_right, or_cases, le-leb, eqb-true, leb-true, and_parts, agree_below_at, both_ways, not-true}
 use Rattle.selector_tree.specs.Letters.{is_within, is_digit, is_name_byte, is_control}
 
@@ -39,7 +39,3 @@ control_low b h =
 
 pub digit_low : (b : ℕ) → is_digit b ≡ true → b < 128
 digit_low b h = (let p = and_parts (leb 48 b) (leb b 57) h in let e = leb-true b 57 p.1 in omega arith)
-
--- a digit in the words of the library
-pub digit_as : (b : ℕ) → is_ascii_digit b ≡ is_digit b
-digit_as b = refl

@@ -1,17 +1,13 @@
 -- Literals: their canonical text is read as the literal.
 use Rattle.std.proofs.Common.{◌≡◌, ℕ, Bool, true, false, eqb, ◌||◌, [], ◌∷◌, ◌++◌, Option, Some, None, if◌then◌else◌, refl, sym, ap, subst, ◌∙◌, append_assoc, inl, inr}
 use Rattle.std.proofs.lemmas.Bool.{both_ways, or_parts, or_cases, eq-eqb, eqb-true}
-use Rattle.std.specs.Char.{is_ascii_hexdigit}
 use Rattle.cos_source.specs.Spaces.{is_space, before_text, without_first_spaces, without_last_spaces, trimmed}
 use Rattle.selector_tree.specs.declared.selector.Arg.TheVariants as arg
 use Rattle.selector_tree.specs.declared.letters.Spelling.TheVariants.{Literal}
 use Rattle.selector_tree.specs.Letters.{is_marked, letter, letters, literal_text}
-use Rattle.selector_spelling.specs.declared.open.Open.TheVariants.{Raw}
 use Rattle.selector_spelling.specs.Bytes.{Bytes}
 use Rattle.selector_spelling.specs.Arguments.{last_is, without_last, unquoted, unescaped, pattern_form, up_to, Split, with_front}
 use Rattle.selector_spelling.specs.Arguments as spelled
-use Rattle.selector_round_trip.proofs.Scanned.{IsKept, IsKept-nil, IsKept-append}
-use Rattle.selector_round_trip.proofs.NameScans.{calm_raw, raw_escaped}
 use Rattle.selector_round_trip.proofs.Names.{letter_cases}
 use Rattle.selector_round_trip.proofs.Bodies.{up_to-plain, up_to-paired}
 
@@ -26,9 +22,6 @@ last_kept (b ∷ d ∷ text) c h = ap (before_text b) (last_kept (d ∷ text) c 
 pub trimmed_again : (b : ℕ) (text : Bytes) (c : ℕ) → is_space b ≡ false → is_space c ≡ false → trimmed (b ∷ (text ++ c ∷ [])) ≡ b ∷ (text ++ c ∷ [])
 trimmed_again b text c h k =
     ap without_last_spaces (ap (λ (x : Bool). if x then without_first_spaces (text ++ c ∷ []) else b ∷ (text ++ c ∷ [])) h) ∙ last_kept (b ∷ text) c k
-
-pub trimmed_one : (b : ℕ) → is_space b ≡ false → trimmed (b ∷ []) ≡ b ∷ []
-trimmed_one b h = ap without_last_spaces (ap (λ (x : Bool). if x then [] else b ∷ []) h) ∙ last_kept [] b h
 
 -- ---- quotes
 
@@ -101,19 +94,6 @@ literal_again text =
     ∙ ap (λ (t : Bytes). arg.Literal t) (unmarked_again text)
 
 -- ---- its scan
-
-letter_raw : (b : ℕ) (rest : Bytes) → IsKept (Raw ∷ []) (letter Literal b) rest
-letter_raw b rest =
-    literal_cases (λ v. IsKept (Raw ∷ []) v rest) b (λ h. raw_escaped b rest (marked_in (λ c. is_ascii_hexdigit c ≡ false) refl refl refl refl refl b h)) (λ h. (let p = plain_parts b h in calm_raw b rest p.0 p.3 p.4))
-
-letters_raw : (text rest : Bytes) → IsKept (Raw ∷ []) (letters Literal text) rest
-letters_raw [] rest = IsKept-nil (Raw ∷ []) rest
-letters_raw (b ∷ text) rest = IsKept-append (Raw ∷ []) (letter Literal b) (letters Literal text) rest (letter_raw b (letters Literal text ++ rest)) (letters_raw text rest)
-
-pub literal_raw : (text rest : Bytes) → IsKept (Raw ∷ []) (literal_text text) rest
-literal_raw text rest =
-    IsKept-append (Raw ∷ []) (34 ∷ []) (letters Literal text ++ 34 ∷ []) rest (calm_raw 34 ((letters Literal text ++ 34 ∷ []) ++ rest) refl refl refl)
-    (IsKept-append (Raw ∷ []) (letters Literal text) (34 ∷ []) rest (letters_raw text (34 ∷ rest)) (calm_raw 34 rest refl refl refl))
 
 -- ---- the name part of `:matches-attr` between quotes
 

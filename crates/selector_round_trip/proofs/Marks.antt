@@ -471,10 +471,6 @@ equals_move failed d h = absurd (let w : None ≡ Some d = h in cc)
 equals_move (marks e true) d h = (let f : e ≡ d = (let w : Some e ≡ Some d = h in cc) in ap (λ (n : ℕ). marks n false) f)
 equals_move (marks e false) d h = (let f : e ≡ d = (let w : Some e ≡ Some d = h in cc) in ap (λ (n : ℕ). marks n false) f)
 
-depth_none : (m : Mark) (text : Bytes) → depth m ≡ None → depth (run m text) ≡ None
-depth_none failed text h = ap depth (run_failed text)
-depth_none (marks d p) text h = absurd (let w : Some d ≡ None = h in cc)
-
 record HasDepth (m : Mark) : Type 0 where
   d : ℕ
   is : depth m ≡ Some d

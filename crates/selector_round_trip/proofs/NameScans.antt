@@ -5,7 +5,7 @@ use Rattle.std.proofs.lemmas.Bool.{cases_Bool, or_cases, or_parts, and_parts, le
 use Rattle.selector_tree.specs.declared.letters.Spelling.TheVariants.{Quoted}
 use Rattle.selector_tree.specs.Letters.{is_name_byte, is_within, is_control, numbered, letter, letters, name_text, string_text}
 use Rattle.selector_spelling.specs.declared.open.Open.{Open}
-use Rattle.selector_spelling.specs.declared.open.Open.TheVariants.{Raw, Round, Square, DoubleQuote}
+use Rattle.selector_spelling.specs.declared.open.Open.TheVariants.{Raw, Square, DoubleQuote}
 use Rattle.selector_spelling.specs.Bytes.{Bytes, backslash, is_quote, number}
 use Rattle.selector_spelling.specs.Scan.{standing, at_least_one}
 use Rattle.selector_spelling.specs.Names.{Taken, onto, quoted, string, character, letter_length}
@@ -36,11 +36,6 @@ pub calm_square : (b : ℕ) (rest : Bytes) → is_calm b ≡ true → IsKept (Sq
 calm_square b rest h =
     let d = apart is_calm b in
     record { kept = refl; ends = rw (d 92 h refl, d 34 h refl, d 39 h refl, d 93 h refl) refl }
-
-pub calm_round : (b : ℕ) (rest : Bytes) → is_calm b ≡ true → IsKept (Round ∷ []) (b ∷ []) rest
-calm_round b rest h =
-    let d = apart is_calm b in
-    record { kept = rw (d 93 h refl) refl; ends = rw (d 92 h refl, d 58 h refl, d 40 h refl, d 91 h refl, d 34 h refl, d 39 h refl, d 41 h refl, d 93 h refl) refl }
 
 pub calm_raw : (b : ℕ) (rest : Bytes) → eqb b 92 ≡ false → eqb b 40 ≡ false → eqb b 41 ≡ false → IsKept (Raw ∷ []) (b ∷ []) rest
 calm_raw b rest x y z = record { kept = refl; ends = rw (x, y, z) refl }

@@ -72,9 +72,6 @@ front_digits (b ∷ text) rest h =
     let p = and_parts (is_ascii_digit b) (list_all is_ascii_digit text) h in
     ap (λ (c : Bool). if c then b ∷ front is_ascii_digit (text ++ rest) else []) p.0 ∙ ap (λ (t : Bytes). b ∷ t) (front_digits text rest p.1)
 
-number-cons : (b : ℕ) (text : Bytes) → is_number (b ∷ text) ≡ is_empty (behind is_ascii_digit (b ∷ text))
-number-cons b text = refl
-
 pub digits_number : (text : Bytes) → list_all is_ascii_digit text ≡ true → is_empty text ≡ false → is_number text ≡ true
 digits_number [] h some = absurd (both_ways true some refl)
 digits_number (b ∷ text) h some = ap (λ (t : Bytes). is_empty (behind is_ascii_digit t)) (sym (append-nil (b ∷ text))) ∙ ap is_empty (behind_digits (b ∷ text) [] h)
@@ -170,10 +167,6 @@ pub record Begins (text : Bytes) : Type 0 where
   pub others : Bytes
   pub is : text ≡ first ∷ others
   pub digit : is_ascii_digit first ≡ true
-
-pub digits_begin : (text : Bytes) → list_all is_ascii_digit text ≡ true → is_empty text ≡ false → Begins text
-digits_begin [] h some = absurd (both_ways true some refl)
-digits_begin (b ∷ text) h some = record { first = b; others = text; is = refl; digit = (and_parts (is_ascii_digit b) (list_all is_ascii_digit text) h).0 }
 
 digit_no_sign : (b : ℕ) → is_ascii_digit b ≡ true → is_plus_or_minus b ≡ false
 digit_no_sign b h = let d = apart is_ascii_digit b in or_from (eqb b 43) (eqb b 45) (d 43 h refl) (d 45 h refl)

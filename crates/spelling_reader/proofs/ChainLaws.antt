@@ -4,9 +4,7 @@ use Rattle.std.proofs.Common.{◌≡◌, ℕ, zero, suc, ◌+◌, ◌-◌, ◌<�
 use Rattle.std.proofs.lemmas.Bool.{cases_Bool, false≢true}
 use Rattle.std.proofs.lemmas.List.{length-drop}
 use Rattle.cos_source.specs.Spaces.{is_space, without_first_spaces}
-use Rattle.selector_tree.specs.declared.selector.Place.TheVariants.{Descendant}
 use Rattle.selector_tree.specs.declared.selector.Step.{Step}
-use Rattle.selector_tree.specs.declared.selector.Step.TheVariants as step
 use Rattle.selector_spelling.specs.declared.finding.Cause.TheVariants as cause
 use Rattle.selector_spelling.specs.declared.finding.Finding.{Finding}
 use Rattle.selector_spelling.specs.declared.reading.Notes.{Notes}
@@ -16,13 +14,13 @@ use Rattle.selector_spelling.specs.Bytes.{Bytes, is_empty}
 use Rattle.selector_spelling.specs.Scan.{Scan, bare, is_bare}
 use Rattle.selector_spelling.specs.Scan as scan
 use Rattle.selector_spelling.specs.Cuts.{Part, longer, parts_from, compound, filled, behind_space, compounds, is_sign}
-use Rattle.selector_spelling.specs.Pieces.{bad, nothing, one, Piece, piece_length, then_others, pieces}
+use Rattle.selector_spelling.specs.Pieces.{bad, nothing, Piece, piece_length, then_others, pieces}
 use Rattle.spelling_reader.specs.declared.cuts.Behind.{Behind}
 use Rattle.spelling_reader.specs.declared.cuts.First.{First}
 use Rattle.spelling_reader.specs.declared.cuts.Cut.TheVariants.{Space}
 use Rattle.spelling_reader.specs.Splits.{parts_behind, bytes_behind, IsFirst}
 use Rattle.spelling_reader.specs.Stops.{Inner, piece_at, ReadsPiece}
-use Rattle.spelling_reader.specs.Chains.{items_read, compounds_read, signed_read}
+use Rattle.spelling_reader.specs.Chains.{items_read, compounds_read}
 use Rattle.spelling_reader.proofs.CutLaws.{cuts-separate}
 use Rattle.spelling_reader.proofs.SoFar.{then_read}
 
@@ -127,9 +125,6 @@ trimmed-first (c ∷ text) b more e =
       | inr h ↦ (let f : c ∷ text ≡ b ∷ more = sym (trimmed-other c text h) ∙ e in let g : c ≡ b = cc in ap is_space (sym g) ∙ h)
     ]
 
-filled-first : (sign at b : ℕ) (text : Bytes) (parts : List Part) → filled (part sign at (b ∷ text) ∷ parts) ≡ part sign at (b ∷ text) ∷ filled parts
-filled-first sign at b text parts = refl
-
 word-first : (sign at : ℕ) (text front : Bytes) (parts : List Part) → (front ≡ [] → ⊥) → filled (part sign at front ∷ parts) ≡ part sign at front ∷ filled parts
 word-first sign at text [] parts h = absurd (h refl)
 word-first sign at text (b ∷ front) parts h = refl
@@ -175,12 +170,6 @@ module _ (inner : Inner) (setting : Setting) where
   some-words : (end : ℕ) (p : Part) (ps whole : List Part) → whole ≡ p ∷ ps → items_read inner setting (compounds end whole) ≡ words_read whole
   some-words end p ps whole e = ap (λ (v : List Part). items_read inner setting (compounds end v)) e ∙ ap words_read (sym e)
 
-  pub some-compound : (at c : ℕ) (text more : Bytes) (first : First) → without_first_spaces text ≡ c ∷ more → IsFirst Space (without_first_spaces text) first
-      → (t : Trimmed 0 at text) → compounds_read inner setting at text ≡ words_read (words t.behind t.place (without_first_spaces text))
-  some-compound at c text more first cons f t =
-      let w = first-word t.behind t.place c (without_first_spaces text) more first cons (trimmed-first text c more cons) f in
-      some-words (at + length text) _ _ (words 0 at text) (t.same ∙ w) ∙ ap words_read t.same
-
   -- the setting of a compound behind which there are words or none
   abbrev pub word_setting : List Part → Setting
   word_setting ps = record { nested = setting.nested; several = setting.several; last = is_empty (behind_space ps) && setting.last }
@@ -194,20 +183,7 @@ module _ (inner : Inner) (setting : Setting) where
   pub words-end : (at : ℕ) (behind : Option Behind) → words_behind at behind ≡ [] → items_read inner setting (behind_space (words_behind at behind)) ≡ Ok nothing
   words-end at behind e = ap (λ (ps : List Part). items_read inner setting (behind_space ps)) e
 
-  words-more : (ps : List Part) → (ps ≡ [] → ⊥) → items_read inner setting (behind_space ps) ≡ then_read (Ok (one (step.Move Descendant))) (words_read ps)
-  words-more [] h = absurd (h refl)
-  words-more (p ∷ ps) h = refl
-
-  pub words-next : (sign at c : ℕ) (text more : Bytes) (first : First) (ps : List Part) → ps ≡ words sign at text → text ≡ c ∷ more → is_space c ≡ false → IsFirst Space text first
-      → items_read inner setting (behind_space ps) ≡ then_read (Ok (one (step.Move Descendant))) (words_read (words sign at text))
-  words-next sign at c text more first ps same cons other f =
-      let w = first-word sign at c text more first cons other f in
-      words-more ps (λ e. let g : part sign at first.text.now ∷ words_behind (at + length first.text.now) first.behind ≡ [] = sym w ∙ sym same ∙ e in cc) ∙ ap (λ (v : List Part). then_read (Ok (one (step.Move Descendant))) (words_read v)) same
-
   -- ---- signs
-
-  pub signed-end : (at : ℕ) → signed_read inner setting at None ≡ Ok nothing
-  signed-end at = refl
 
   parts-some : (s : Scan) (sign at : ℕ) (text : Bytes) → is_empty (parts_from is_sign s sign at text) ≡ false
   parts-some s sign at [] = refl

@@ -19,9 +19,6 @@ pub record IsHexSoFar (so_far count : ℕ) (rest text : Bytes) : Type 0 where
   pub value : number_from 16 so_far (hex_front (6 - count) rest) ≡ number 16 (hex_front 6 text)
   pub digits : count + length (hex_front (6 - count) rest) ≡ length (hex_front 6 text)
 
-pub hex_none : (text : Bytes) → IsHexSoFar 0 0 text text
-hex_none text = record { most = omega arith; below = omega arith; value = refl; digits = omega arith }
-
 pub fits_more : (so_far count digit : ℕ) → so_far < limit count → count < 6 → digit < 16 → so_far * 16 + digit < 2 ^ 32
 fits_more so_far zero digit h lt d = omega arith
 fits_more so_far (suc zero) digit h lt d = omega arith

@@ -1,11 +1,11 @@
 -- Letters of names and strings: escapes, and characters that stand for themselves.
 use denote.Ref.{Bor}
-use Rattle.std.proofs.Common.{◌≡◌, ℕ, zero, suc, ◌+◌, ◌-◌, ◌<◌, ◌≤◌, Bool, true, false, not, eqb, ◌&&◌, ◌||◌, if◌then◌else◌, [], ◌∷◌, ◌++◌, length, get_or, drop, Option, Some, None, refl, sym, ap, ◌∙◌, append_assoc, arith, inl, inr}
+use Rattle.std.proofs.Common.{◌≡◌, ℕ, zero, suc, ◌+◌, ◌-◌, ◌<◌, ◌≤◌, Bool, true, false, not, eqb, ◌&&◌, ◌||◌, if◌then◌else◌, [], ◌∷◌, ◌++◌, length, drop, Option, Some, None, refl, sym, ap, ◌∙◌, append_assoc, arith, inl, inr}
 use Rattle.std.specs.Prelude.{encode_utf8, MatchOption}
 use Rattle.std.specs.Char.{is_ascii_hexdigit}
 use Rattle.std.specs.List.{AllByRecursion}
 use Rattle.std.proofs.lemmas.List.{length-append, append-nil, drop-drop, nil_from_length, length-drop}
-use Rattle.std.proofs.lemmas.Bool.{cases_lt, cases_Bool, or_right, ne_eqb, eqb-true, le-leb, false≢true}
+use Rattle.std.proofs.lemmas.Bool.{cases_lt, cases_Bool, or_right, ne_eqb, le-leb, false≢true}
 use Rattle.selector_tree.specs.Letters.{is_within, is_digit, is_name_byte}
 use Rattle.selector_spelling.specs.Bytes.{Bytes, number, begins_with, backslash}
 use Rattle.selector_spelling.specs.Names.{Letter, Taken, escape, escaped, character, numbered, space_length, letter, behind_backslash, onto, run, quoted, string, is_plain}
@@ -126,9 +126,6 @@ other-letter plain text rest c e lacks other b more from =
     let low : c < 128 = elim (cases_lt c 128) [ inl l ↦ l | inr h ↦ absurd (false≢true (sym lacks ∙ stands-high plain c h)) ] in
     let same : b ≡ c = heads b f.byte more (f.tail ++ rest) (sym from ∙ f.from) ∙ (f.low low).0 in
     letter-none (stands plain) b more (ap (stands plain) same ∙ lacks) (ne_eqb b backslash (λ z. other (sym same ∙ z)))
-
-pub no-letter-at-end : (plain : Plain) (text : Bytes) → text ≡ [] → HasNoLetter (stands plain) text
-no-letter-at-end plain text e b more from = absurd (let f : [] ≡ b ∷ more = sym e ∙ from in cc)
 
 letter-escape : (p : ℕ → Bool) (more : Bytes) → p backslash ≡ false → letter p backslash more ≡ behind_backslash (escaped p more)
 letter-escape p more h = rw h refl
@@ -270,36 +267,6 @@ string-letter q text rest c low other l =
     ∙ ap (before l.first.value) (string-skip q (n - 1) l.more ∙ ap (string q zero) behind ∙ string-high q l.tail rest low l.high)
     ∙ before-before l.first.value l.tail (string q zero rest) ∙ ap (λ (v : Bytes). before v (string q zero rest)) l.value
 
-string-last : (q b : ℕ) (more : Bytes) → eqb b q ≡ false → letter is_plain b more ≡ None → string q zero (b ∷ more) ≡ None
-string-last q b more h k = rw (h, k) refl
-
-pub string-none : (q : ℕ) (text : Bytes) → begins_with q text ≡ false → HasNoLetter is_plain text → string q zero text ≡ None
-string-none q [] other h = refl
-string-none q (b ∷ more) other h = string-last q b more other (h b more refl)
-
-string-quote : (q b : ℕ) (more : Bytes) → eqb b q ≡ true → string q zero (b ∷ more) ≡ Some (record { value = []; rest = more })
-string-quote q b more h = rw h refl
-
-pub string-end : (q : ℕ) (text : Bytes) → begins_with q text ≡ true → string q zero text ≡ Some (record { value = []; rest = drop 1 text })
-string-end q [] h = absurd (false≢true h)
-string-end q (b ∷ more) h = string-quote q b more h
-
-pub quote-first : (q : ℕ) (text : Bytes) → q < 128 → begins_with q text ≡ true → (1 ≤ length text) × (get_or text 0 0 < 128)
-quote-first q [] low h = absurd (false≢true h)
-quote-first q (b ∷ more) low h = (omega arith, omega (arith, low, eqb-true b q h))
-
 pub string_more : (value more value' : Bytes) (rest : Option Taken) (text whole : Option Taken) → text ≡ before more rest → value' ≡ value ++ more → before value text ≡ whole → before value' rest ≡ whole
 string_more value more value' rest text whole step value-is so_far =
     ap (λ (v : Bytes). before v rest) value-is ∙ sym (before-before value more rest) ∙ ap (before value) (sym step) ∙ so_far
-
-pub string_done : (value rest : Bytes) (text whole : Option Taken) → text ≡ Some (record { value = []; rest = rest }) → before value text ≡ whole → whole ≡ Some (record { value = value; rest = rest })
-string_done value rest text whole ends so_far = sym so_far ∙ ap (before value) ends ∙ ap (λ (v : Bytes). Some (record { value = v; rest = rest })) (append-nil value)
-
-pub string_fails : (value : Bytes) (text whole : Option Taken) → text ≡ None → before value text ≡ whole → whole ≡ None
-string_fails value text whole ends so_far = sym so_far ∙ ap (before value) ends
-
-pub before-start : (value : Bytes) (t : Option Taken) → value ≡ [] → before value t ≡ t
-before-start value t e = ap (λ (v : Bytes). before v t) e ∙ before-nil t
-
-pub onto-start : (value : Bytes) (t : Taken) → value ≡ [] → onto value t ≡ t
-onto-start value t e = ap (λ (v : Bytes). onto v t) e

@@ -20,7 +20,6 @@ use Rattle.selector_spelling.specs.Scan as scan
 use Rattle.selector_spelling.specs.Pieces.{◌>>=◌, bad, no_notes, one, Piece, pieces}
 use Rattle.selector_spelling.specs.Texts.{place_of, chains_then, chains, selector}
 use Rattle.spelling_reader.specs.declared.stop.Stop.{Stop}
-use Rattle.spelling_reader.specs.declared.stop.Stop.TheVariants as stop
 use Rattle.spelling_reader.specs.declared.cuts.Behind.{Behind}
 use Rattle.spelling_reader.specs.declared.cuts.First.{First}
 use Rattle.spelling_reader.specs.declared.cuts.Cut.TheVariants.{Comma, Sign, Space}
@@ -29,8 +28,8 @@ use Rattle.spelling_reader.specs.Stops.{Inner, Fails, Reads, ReadsChains, ReadsP
 use Rattle.spelling_reader.specs.Chains.{items_read, compounds_read, signed_read, chain_read, lead}
 use Rattle.spelling_reader.proofs.ReadsLaws.{reads_one, notes-nothing}
 use Rattle.spelling_reader.proofs.SoFar.{then_read, SoFar, so_far_start, so_far_more, so_far_fails, so_far_last, so_far_last_fails, so_far_end}
-use Rattle.spelling_reader.proofs.SelectorLaws.{ChainsSoFar, chains_start, chains_more, chains_last, chains_fail, first-chain, several-chains, front_read, signed-first, chain-signed, chain-plain, chain-led}
-use Rattle.spelling_reader.proofs.ChainLaws.{piece-next, piece-fails, words, words_behind, words_read, trimmed-words, trimmed-first, no-compound, words-first, words-end}
+use Rattle.spelling_reader.proofs.SelectorLaws.{ChainsSoFar, chains_start, chains_more, chains_last, first-chain, several-chains, front_read, signed-first, chain-signed, chain-plain, chain-led}
+use Rattle.spelling_reader.proofs.ChainLaws.{piece-next, words, words_behind, words_read, trimmed-words, trimmed-first, no-compound, words-first, words-end}
 
 -- ---- selectors
 
@@ -70,12 +69,6 @@ module _ (inner : Inner) (setting : Setting) (in_has : Bool) where
   chains_done at first cs cs' steps n0 n n' whole f r cs-are e =
       chains_last cs cs' steps n0 n n' (chain_read inner setting in_has at first.text.now) (chains_left inner setting in_has at first) whole f r
       (ap (λ (v : Option Behind). chain_read inner setting in_has at first.text.now >>= λ a. chains inner setting.nested setting.several in_has (parts_behind is_comma (at + length first.text.now) v) >>= λ l. Ok (chains_then a l)) e) cs-are
-
-  pub chains_stop : (at : ℕ) (first : First) (cs : List (List Step)) (n0 n : Notes) (whole : Result Chains Finding) (s : Stop)
-      → ChainsSoFar cs n0 n (chains_left inner setting in_has at first) whole → Fails s (chain_read inner setting in_has at first.text.now) → Fails s whole
-  chains_stop at first cs n0 n whole s f h =
-      chains_fail cs n0 n (chain_read inner setting in_has at first.text.now) (chains_left inner setting in_has at first)
-      (chains inner setting.nested setting.several in_has (parts_behind is_comma (at + length first.text.now) first.behind)) whole s f refl h
 
 -- ---- results
 
@@ -298,19 +291,6 @@ module _ (inner : Inner) (setting : Setting) where
   piece_turn first at at' rest rest' s0 s s' n0 n n' whole f some places r =
       so_far_more s0 s s' n0 n n' (Ok r.read.reading) (pieces inner setting first at zero rest) (pieces inner setting false at' zero rest') whole f
       (record { reading = r.read.reading; is = refl; steps_are = r.steps_are; notes_are = r.notes_are }) (piece-next inner setting first at at' rest rest' s s' n n' some places r)
-
-  piece-fails-by : (first : Bool) (at : ℕ) (rest : Bytes) (e : Stop) → 0 < length rest → Fails e (piece_at inner setting first at rest) → Fails e (pieces inner setting first at zero rest)
-  piece-fails-by first at rest stop.NoMemory some h = tt
-  piece-fails-by first at rest (stop.Found x) some h = piece-fails inner setting first at rest x some h
-
-  pub piece_stop : (first : Bool) (at : ℕ) (rest : Bytes) (s0 s : List Step) (n0 n : Notes) (whole : Result Reading Finding) (e : Stop) → SoFar s0 s n0 n (pieces inner setting first at zero rest) whole
-      → 0 < length rest → Fails e (piece_at inner setting first at rest) → Fails e whole
-  piece_stop first at rest s0 s n0 n whole e f some h = so_far_last_fails s0 s n0 n (pieces inner setting first at zero rest) whole e f (piece-fails-by first at rest e some h)
-
-  pub pieces_done : (first : Bool) (at : ℕ) (rest : Bytes) (s0 s : List Step) (n0 n : Notes) (whole : Result Reading Finding) → SoFar s0 s n0 n (pieces inner setting first at zero rest) whole
-      → length rest ≡ 0 → Reads s0 s n0 n whole
-  pieces_done first at rest s0 s n0 n whole f h =
-      so_far_end s0 s n0 n (pieces inner setting first at zero rest) whole f (ap (pieces inner setting first at zero) (nil_from_length rest h))
 
 pub piece_shorter : (s s' : List Step) (n n' : Notes) (text rest : Bytes) (given : Result Piece Finding) → 0 < length text → ReadsPiece s s' n n' text rest given → length rest < length text
 piece_shorter s s' n n' text rest given some r = (let k = r.some in omega (arith, k, ap length r.rest_is, length-drop r.read.length text))

@@ -6,16 +6,12 @@ use Rattle.selector_spelling.specs.declared.finding.Finding.{Finding}
 use Rattle.selector_spelling.specs.declared.reading.Ask.{Ask}
 use Rattle.selector_spelling.specs.declared.reading.Notes.{Notes}
 use Rattle.selector_spelling.specs.declared.reading.Reading.{Reading}
-use Rattle.selector_spelling.specs.Pieces.{no_notes, notes_joined, one, operating}
+use Rattle.selector_spelling.specs.Pieces.{no_notes, notes_joined, one}
 use Rattle.spelling_reader.specs.Stops.{Reads}
 
 or-false : (b : Bool) → (b || false) ≡ b
 or-false true = refl
 or-false false = refl
-
-or-true : (b : Bool) → (b || true) ≡ true
-or-true true = refl
-or-true false = refl
 
 or-assoc : (a b c : Bool) → ((a || b) || c) ≡ (a || (b || c))
 or-assoc true b c = refl
@@ -31,9 +27,6 @@ notes-same a a' r r' o o' e f g = ap (λ (x : List Ask). notes_of x r o) e ∙ a
 pub notes-nothing : (n : Notes) → notes_joined n no_notes ≡ n
 notes-nothing n = notes-same (n.asks ++ []) n.asks (n.removes || false) n.removes (n.operates || false) n.operates (append-nil n.asks) (or-false n.removes) (or-false n.operates)
 
-pub notes-operating : (n : Notes) (asks : List Ask) → notes_of (n.asks ++ asks) n.removes true ≡ notes_joined n (notes_of asks false true)
-notes-operating n asks = sym (notes-same (n.asks ++ asks) (n.asks ++ asks) (n.removes || false) n.removes (n.operates || true) true refl (or-false n.removes) (or-true n.operates))
-
 pub notes-assoc : (a b c : Notes) → notes_joined (notes_joined a b) c ≡ notes_joined a (notes_joined b c)
 notes-assoc a b c =
     notes-same ((a.asks ++ b.asks) ++ c.asks) (a.asks ++ (b.asks ++ c.asks)) ((a.removes || b.removes) || c.removes) (a.removes || (b.removes || c.removes))
@@ -42,8 +35,3 @@ notes-assoc a b c =
 -- a step that says nothing else
 pub reads_one : (steps steps' : List Step) (notes notes' : Notes) (s : Step) (given : Result Reading Finding) → given ≡ Ok (one s) → steps' ≡ steps ++ s ∷ [] → notes' ≡ notes → Reads steps steps' notes notes' given
 reads_one steps steps' notes notes' s given e f g = record { reading = one s; is = e; steps_are = f; notes_are = g ∙ sym (notes-nothing notes) }
-
--- a step of an operator
-pub reads_operating : (steps steps' : List Step) (notes notes' : Notes) (s : Step) (asks : List Ask) (given : Result Reading Finding) → given ≡ Ok (operating s asks) → steps' ≡ steps ++ s ∷ []
-    → notes' ≡ notes_of (notes.asks ++ asks) notes.removes true → Reads steps steps' notes notes' given
-reads_operating steps steps' notes notes' s asks given e f g = record { reading = operating s asks; is = e; steps_are = f; notes_are = g ∙ notes-operating notes asks }

@@ -1,13 +1,11 @@
 -- Pieces that are tests of names and attributes.
 use denote.Ref.{Bor}
 use Rattle.std.specs.Prelude.{MatchResult}
-use Rattle.std.proofs.Common.{subst, ◌≡◌, ℕ, suc, ◌+◌, ◌-◌, ◌<◌, Bool, true, false, eqb, List, [], ◌∷◌, ◌++◌, length, get_or, drop, Some, None, Result, Ok, Err, refl, sym, ap, ◌∙◌, arith}
+use Rattle.std.proofs.Common.{subst, ◌≡◌, ℕ, suc, ◌+◌, ◌-◌, ◌<◌, Bool, true, false, eqb, List, [], ◌∷◌, ◌++◌, length, get_or, drop, Some, Result, Ok, Err, refl, sym, ap, ◌∙◌, arith}
 use Rattle.std.proofs.lemmas.Bool.{ne_eqb}
 use Rattle.selector_tree.specs.declared.selector.Step.{Step}
 use Rattle.selector_tree.specs.declared.selector.Step.TheVariants as step
 use Rattle.selector_tree.specs.declared.selector.Test.{Test}
-use Rattle.selector_tree.specs.declared.selector.Test.TheVariants as test
-use Rattle.selector_spelling.specs.declared.finding.Cause.TheVariants as cause
 use Rattle.selector_spelling.specs.declared.finding.Finding.{Finding}
 use Rattle.selector_spelling.specs.declared.open.Open.TheVariants.{Square}
 use Rattle.selector_spelling.specs.declared.reading.Setting.{Setting}
@@ -15,7 +13,7 @@ use Rattle.selector_spelling.specs.Bytes.{Bytes, begins_with, colon, hash, dot, 
 use Rattle.selector_spelling.specs.Names.{name}
 use Rattle.selector_spelling.specs.Scan.{standing, within}
 use Rattle.selector_spelling.specs.Attributes.{attribute}
-use Rattle.selector_spelling.specs.Pieces.{Piece, keep, bad, named, attributed, piece}
+use Rattle.selector_spelling.specs.Pieces.{Piece, keep, named, attributed, piece}
 use Rattle.spelling_reader.specs.declared.stop.Stop.{Stop}
 use Rattle.spelling_reader.specs.declared.stop.Stop.TheVariants as stop
 use Rattle.spelling_reader.specs.declared.tests_of.Named.{Named}
@@ -66,30 +64,9 @@ module _ (at : ℕ) (steps steps' : List Step) (given : Result Piece Finding) wh
         steps_are = steps-are;
       }
 
-  pub attribute-fails : (more inside rest : Bytes) → given ≡ attributed at more → IsArgument Square more inside rest → None ≡ attribute inside → given ≡ bad cause.BadAttribute at
-  attribute-fails more inside rest e a none =
-      let same : None ≡ attribute (within (standing (Square ∷ [])) more) = none ∙ ap attribute a.is in
-      e ∙ rw (a.closed, ← same) refl
-
 -- ---- by the first byte
 
 module _ (inner : Inner) (setting : Setting) (first : Bool) (at : ℕ) where
-  at-hash : (text : Bytes) → piece inner setting first at hash text ≡ named at (hash ∷ text) (of_name kind.Id) (name text)
-  at-hash text = refl
-
-  at-dot : (text : Bytes) → piece inner setting first at dot text ≡ named at (dot ∷ text) (of_name kind.Class) (name text)
-  at-dot text = refl
-
-  at-square : (text : Bytes) → piece inner setting first at square_open text ≡ attributed at text
-  at-square text = refl
-
-  at-other : (b : ℕ) (text : Bytes) → eqb b hash ≡ false → eqb b dot ≡ false → eqb b square_open ≡ false → eqb b colon ≡ false → first ≡ false → piece inner setting first at b text ≡ bad cause.BadName at
-  at-other b text h d s c f = rw (h, d, s, c, f) refl
-
-  at-star : (b : ℕ) (text : Bytes) → eqb b hash ≡ false → eqb b dot ≡ false → eqb b square_open ≡ false → eqb b colon ≡ false → first ≡ true → eqb b star ≡ true
-      → piece inner setting first at b text ≡ Ok (record { length = 1; reading = keep test.Any })
-  at-star b text h d s c f k = rw (h, d, s, c, f, k) refl
-
   at-tag : (b : ℕ) (text : Bytes) → eqb b hash ≡ false → eqb b dot ≡ false → eqb b square_open ≡ false → eqb b colon ≡ false → first ≡ true → eqb b star ≡ false
       → piece inner setting first at b text ≡ named at (b ∷ text) (of_name kind.Tag) (name (b ∷ text))
   at-tag b text h d s c f k = rw (h, d, s, c, f, k) refl

@@ -2,7 +2,7 @@
 use Rattle.std.proofs.Common.{◌≡◌, ℕ, suc, ◌-◌, ◌<◌, ◌≤◌, Bool, true, false, not, eqb, ◌&&◌, ◌||◌, [], ◌∷◌, ◌++◌, length, get_or, take, drop, refl, sym, ap, ◌∙◌, append_assoc, arith, inl, inr}
 use Rattle.std.specs.Prelude.{encode_utf8}
 use Rattle.std.specs.List.{AllByRecursion}
-use Rattle.std.proofs.lemmas.Bool.{cases_lt, cases_Bool, or_from, ne_eqb, eqb-true, and_parts}
+use Rattle.std.proofs.lemmas.Bool.{cases_lt, cases_Bool, or_from, ne_eqb, eqb-true}
 use Rattle.selector_spelling.specs.Bytes.{Bytes, is_quote, backslash}
 use Rattle.selector_spelling.specs.Arguments.{unescaped, last_is, without_last, unquoted}
 use Rattle.spelling_reader.specs.declared.texts.Marks.{Marks}
@@ -97,11 +97,6 @@ without-last-by : (b : ℕ) (text : Bytes) → without_last (b ∷ text) ≡ tak
 without-last-by b [] = refl
 without-last-by b (c ∷ text) = ap (λ (v : Bytes). b ∷ v) (without-last-by c text)
 
-pub unquoted-short : (text : Bytes) → length text < 2 → unquoted text ≡ text
-unquoted-short [] h = refl
-unquoted-short (b ∷ []) h = elim (cases_Bool (is_quote b)) [ inl is ↦ rw is refl | inr another ↦ rw another refl ]
-unquoted-short (b ∷ c ∷ text) h = absurd (omega arith)
-
 pub unquoted-other : (text : Bytes) → 2 ≤ length text → (is_quote (get_or text 0 0) && eqb (get_or text (length text - 1) 0) (get_or text 0 0)) ≡ false → unquoted text ≡ text
 unquoted-other [] h e = absurd (omega arith)
 unquoted-other (b ∷ []) h e = absurd (omega arith)
@@ -120,14 +115,3 @@ unquoted-quoted (b ∷ c ∷ text) h e =
     let f : (is_quote b && last_is b (c ∷ text)) ≡ true = ap (λ (x : Bool). is_quote b && x) l ∙ e in
     let one : unquoted (b ∷ c ∷ text) ≡ without_last (c ∷ text) = rw f refl in
     one ∙ without-last-by c text ∙ ap (λ (k : ℕ). drop 1 (take k (b ∷ c ∷ text))) (sym n)
-
--- both ends are ASCII
-pub quoted-low : (first last : ℕ) → (is_quote first && eqb last first) ≡ true → (first < 128) × (last < 128)
-quoted-low first last e =
-    let q = and_parts (is_quote first) (eqb last first) e in
-    let low : first < 128 = elim (cases_lt first 128) [
-      | inl l ↦ l
-      | inr h ↦ absurd (let f : is_quote first ≡ false = or_from (eqb first 34) (eqb first 39) (other first 34 h (omega arith)) (other first 39 h (omega arith)) in let g : true ≡ false = sym q.0 ∙ f in cc)
-    ] in
-    let same = eqb-true last first q.1 in
-    (low, omega (arith, low, same))

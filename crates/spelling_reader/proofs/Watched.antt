@@ -1,10 +1,10 @@
 -- Names between commas, one after the other.
 use denote.Ref.{Bor}
-use Rattle.std.specs.Prelude.{option_and_then, IfSome}
+use Rattle.std.specs.Prelude.{option_and_then}
 use Rattle.std.proofs.Common.{◌≡◌, ℕ, ◌<◌, true, false, eqb, List, [], ◌∷◌, ◌++◌, length, drop, Option, Some, None, zero, suc, ◌+◌, refl, sym, ap, ◌∙◌, append_assoc, arith, inl, inr}
 use Rattle.std.specs.List.{slice_split, onto_first}
 use Rattle.std.proofs.lemmas.Bool.{cases_Bool}
-use Rattle.std.proofs.lemmas.List.{append-nil, nil_from_length}
+use Rattle.std.proofs.lemmas.List.{nil_from_length}
 use Rattle.cos_source.specs.Spaces.{trimmed}
 use Rattle.selector_spelling.specs.Bytes.{Bytes, differs, front, behind, comma}
 use Rattle.selector_spelling.specs.Arguments.{is_comma, watched_name, watched_names}
@@ -47,18 +47,12 @@ first_part text part rest more part-is rest-is some more-is =
 abbrev pub names_of : Option (Bor Bytes) → Option (List Bytes)
 names_of next = watched_names (parts_behind next)
 
-pub names_done : (names : List Bytes) (whole : Option (List Bytes)) → names_before names (Some []) ≡ whole → Some names ≡ whole
-names_done names whole e = ap Some (sym (append-nil names)) ∙ e
-
 by_others : (name : Bytes) (others : Option (List Bytes)) → option_and_then (λ (o : List Bytes). Some (name ∷ o)) others ≡ names_before (name ∷ []) others
 by_others name None = refl
 by_others name (Some others) = refl
 
 name-read : (text : Bytes) (texts : List Bytes) (name : Bytes) → watched_name (trimmed text) ≡ Some name → watched_names (text ∷ texts) ≡ names_before (name ∷ []) (watched_names texts)
 name-read text texts name h = rw h (by_others name (watched_names texts))
-
-name-bad : (text : Bytes) (texts : List Bytes) → watched_name (trimmed text) ≡ None → watched_names (text ∷ texts) ≡ None
-name-bad text texts h = rw h refl
 
 before-twice : (names : List Bytes) (name : Bytes) (others : Option (List Bytes)) → names_before names (names_before (name ∷ []) others) ≡ names_before (names ++ name ∷ []) others
 before-twice names name None = refl
@@ -70,19 +64,10 @@ name_more names names' text part name next whole parts-are name-is names-are so_
     ap (λ (v : List Bytes). names_before v (names_of next)) names-are ∙ sym (before-twice names name (names_of next))
     ∙ ap (names_before names) (sym (ap watched_names parts-are ∙ name-read part (parts_behind next) name (sym name-is))) ∙ so_far
 
-pub name_fails : (names : List Bytes) (text part : Bytes) (next : Option (Bor Bytes)) (whole : Option (List Bytes)) → slice_split is_comma text ≡ part ∷ parts_behind next
-    → None ≡ watched_name (trimmed part) → names_before names (watched_names (slice_split is_comma text)) ≡ whole → None ≡ whole
-name_fails names text part next whole parts-are bad so_far =
-    ap (names_before names) (sym (ap watched_names parts-are ∙ name-bad part (parts_behind next) (sym bad))) ∙ so_far
-
 -- how much is still to be read
 abbrev pub left : Option (Bor Bytes) → ℕ
 left None = 0
 left (Some text) = 1 + length text.now
-
-pub left_less : (text : Bytes) (next : Option (Bor Bytes)) → IfSome next (λ rest. length rest.now < length text) → left next < 1 + length text
-left_less text None h = omega arith
-left_less text (Some rest) h = omega (arith, h)
 
 pub some_left : (n : ℕ) → eqb n 0 ≡ false → 0 < n
 some_left zero e = absurd (let f : true ≡ false = e in cc)

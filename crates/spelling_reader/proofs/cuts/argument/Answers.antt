@@ -1,4 +1,4 @@
-use Rattle.std.proofs.Common.{arith, ◌<◌, ◌≡◌, ◌∙◌, sym, ap, subst, length}
+use Rattle.std.proofs.Common.{arith, ◌<◌, ◌∙◌, sym, ap, subst, length}
 use Rattle.selector_spelling.specs.Bytes.{Bytes}
 use Rattle.selector_spelling.specs.Pieces.{where_closed}
 use Rattle.spelling_reader.specs.Splits.{EndsArgument}
