@@ -14,6 +14,3 @@ mod spelled;
 mod tables;
 
 pub use reader::{PageError, read_fragment, read_page};
-
-#[cfg(test)]
-mod tests;

@@ -1,9 +1,8 @@
 // Small pages and their trees.
 
-use crate::{PageError, read_fragment, read_page};
-use dom_arena::{Dom, NodeKind, NodeRef};
+use crate::shown::listing;
+use html_tree::{PageError, read_fragment, read_page};
 use std::alloc::Global;
-use std::fmt::Write;
 use std::test::Fail;
 
 // A page, and its nodes in order: the number of the parent, then `<` and the name of an element with its attributes, `'` and
@@ -166,44 +165,6 @@ fn attributes() -> &'static [Page] {
     ]
 }
 
-// A node without its parent.
-fn told(alloc: Global, node: &NodeRef) -> Result<String, Fail> {
-    let mut text = String::new(alloc);
-    match node.kind() {
-        NodeKind::Element => {
-            text.push('<')?;
-            text.push_str(node.name())?;
-        }
-        NodeKind::Comment => {
-            text.push('!')?;
-            text.push_str(node.text())?;
-        }
-        _ => {
-            text.push('\'')?;
-            text.push_str(node.text())?;
-        }
-    }
-    for i in 0..12 {
-        if let Some((name, value)) = node.attr_at(i) {
-            write!(text, " {name}={value}")?;
-        }
-    }
-    Ok(text)
-}
-
-// The nodes of a tree in order.
-fn listing(alloc: Global, dom: &Dom) -> Result<String, Fail> {
-    let mut text = String::new(alloc);
-    for before in 0..dom.count() {
-        let n = before + 1;
-        let node = dom.node(n).ok_or("no node")?;
-        let parent = dom.parent(n).ok_or("no parent")?;
-        let line = told(alloc, &node)?;
-        write!(text, "{parent} {line}|")?;
-    }
-    Ok(text)
-}
-
 #[test]
 fn pages_have_these_trees(rt: HostRuntime) -> Result<(), Fail> {
     for pages in [elements(), implied_ends(), texts(), attributes()] {
@@ -216,31 +177,26 @@ fn pages_have_these_trees(rt: HostRuntime) -> Result<(), Fail> {
     Ok(())
 }
 
-// Whether a fragment is read at this depth and below so many nodes.
-fn read(alloc: Global, source: &str, parent_depth: u32, live: u32) -> Result<usize, PageError> {
-    let part = read_fragment(alloc, source, parent_depth, live)?;
+// How many nodes a fragment has that is read at this depth and beside so many nodes.
+fn read(alloc: Global, source: &str, depth: u32, live: u32) -> Result<usize, PageError> {
+    let part = read_fragment(alloc, source, depth, live)?;
     Ok(part.len())
 }
 
 #[test]
 fn nodes_pass_no_limit(rt: HostRuntime) -> Result<(), Fail> {
-    let alloc = rt.alloc();
     let source = "a<i>b</i>c";
-    assert_eq!(rt; read(alloc, source, 510, 999_996), Ok(4));
-    assert_eq!(rt; read(alloc, source, 511, 0), Err(PageError::TooDeep));
-    assert_eq!(rt;
-        read(alloc, source, 4_294_967_295, 0),
-        Err(PageError::TooDeep)
-    );
-    assert_eq!(rt;
-        read(alloc, source, 0, 999_997),
-        Err(PageError::TooManyNodes)
-    );
-    assert_eq!(rt; read(alloc, source, 511, 999_998), Err(PageError::TooDeep));
-    assert_eq!(rt;
-        read(alloc, source, 511, 999_999),
-        Err(PageError::TooManyNodes)
-    );
-    assert_eq!(rt; read(alloc, "", 512, 1_000_000), Ok(0));
+    for (source, depth, live, answer) in [
+        (source, 510, 999_996, Ok(4)),
+        (source, 511, 0, Err(PageError::TooDeep)),
+        (source, 4_294_967_295, 0, Err(PageError::TooDeep)),
+        (source, 0, 999_997, Err(PageError::TooManyNodes)),
+        (source, 511, 999_998, Err(PageError::TooDeep)),
+        (source, 511, 999_999, Err(PageError::TooManyNodes)),
+        ("", 512, 1_000_000, Ok(0)),
+    ] {
+        let found = read(rt.alloc(), source, depth, live);
+        assert_eq!(rt; found, answer, "at {depth} beside {live}");
+    }
     Ok(())
 }
