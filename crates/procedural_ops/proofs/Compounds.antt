@@ -17,7 +17,7 @@ use Rattle.procedural_ops.specs.Noted.{chain_tests, step_tests, nested_tests}
 use Rattle.procedural_ops.specs.Reaching.{reached}
 use Rattle.procedural_ops.specs.Runs.{is_keep, is_nested, is_nested_at, keeps, nested_keeps, nested_keeps_at}
 use Rattle.procedural_ops.proofs.Keeping.{reached_run}
-use Rattle.procedural_ops.proofs.Parts.{chain_cut, run_tests}
+use Rattle.procedural_ops.proofs.Totals.{chain_cut, run_tests}
 
 -- ---- the last compound
 

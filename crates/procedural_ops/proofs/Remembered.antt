@@ -12,7 +12,10 @@ use Rattle.page_tree.specs.Directions.{is_in}
 use Rattle.cos_patterns.specs.Found.{pattern_found}
 use Rattle.selector_meaning.specs.Texts.{Bytes}
 use Rattle.selector_meaning.specs.Meaning.{holds}
-use Rattle.procedural_ops.specs.Noted.{chain_tests, IsPart, answer_at, Notes, missing, unknown, IsRight}
+use Rattle.procedural_ops.specs.Noted.{chain_tests, chain_cells, many_single, IsPart, answer_at, Notes, missing, unknown, IsRight}
+use Rattle.selector_match.specs.Kinds.{is_single}
+use Rattle.procedural_ops.specs.Count.{many_passing}
+use Rattle.procedural_ops.proofs.Parts.{chain_single_tests}
 use Rattle.procedural_ops.proofs.Counts.{passing_le, passing_less, passing_few}
 
 -- ---- a test at its place
@@ -29,42 +32,54 @@ at_place tests k q p = (
 
 -- ---- missing answers
 
-at_or_below : (k n : ℕ) → k < suc n → (k ≡ n) ⊎ (k < n)
-at_or_below k n h = elim (zero_or (n - k)) [ inl z ↦ inl (omega (arith, h, z)) | inr m ↦ inr (omega (arith, m)) ]
-  where
-    zero_or : (a : ℕ) → (a ≡ 0) ⊎ (0 < a)
-    zero_or zero = inl refl
-    zero_or (suc a) = inr (omega arith)
+part_le : (b : Bool) (m n : ℕ) → m ≤ n → cond {A = ℕ} b m 0 ≤ cond {A = ℕ} b n 0
+part_le true m n h = h
+part_le false m n h = omega arith
 
 module _ (f g : ℕ → ℕ → Option Bool) (elements : List ℕ) (more : (k z : ℕ) → not (is_some (g k z)) ≡ true → not (is_some (f k z)) ≡ true) where
-  missing_le : (n : ℕ) → missing g elements n ≤ missing f elements n
-  missing_le zero = omega arith
-  missing_le (suc n) = omega (arith, passing_le (λ z. not (is_some (g n z))) (λ z. not (is_some (f n z))) (more n) elements, missing_le n)
+  missing_le : (tests : List Test) (k : ℕ) → missing g elements tests k ≤ missing f elements tests k
+  missing_le [] k = omega arith
+  missing_le (q ∷ tests) k =
+      omega (
+        arith,
+        part_le (is_single q) (many_passing (λ z. not (is_some (g k z))) elements) (many_passing (λ z. not (is_some (f k z))) elements)
+            (passing_le (λ z. not (is_some (g k z))) (λ z. not (is_some (f k z))) (more k) elements),
+        missing_le tests (suc k),
+      )
 
-  missing_less : (n k x : ℕ) → k < n → is_in elements x ≡ true → not (is_some (g k x)) ≡ false → not (is_some (f k x)) ≡ true → missing g elements n + 1 ≤ missing f elements n
-  missing_less zero k x h there after before = absurd (omega (arith, h))
-  missing_less (suc n) k x h there after before =
-      elim (at_or_below k n h) [
-        | inl e ↦
-            omega (
-              arith,
-              passing_less (λ z. not (is_some (g n z))) (λ z. not (is_some (f n z))) (more n) elements x there
-                  (ap (λ (m : ℕ). not (is_some (g m x))) (sym e) ∙ after) (ap (λ (m : ℕ). not (is_some (f m x))) (sym e) ∙ before),
-              missing_le n,
-            )
-        | inr l ↦
-            omega (
-              arith,
-              passing_le (λ z. not (is_some (g n z))) (λ z. not (is_some (f n z))) (more n) elements,
-              missing_less n k x l there after before,
-            )
-      ]
+  missing_less : (tests : List Test) (first i k x : ℕ) (q : Test) → i < length tests → q ≡ get_or tests i q → is_single q ≡ true → k ≡ first + i → is_in elements x ≡ true →
+      not (is_some (g k x)) ≡ false → not (is_some (f k x)) ≡ true → missing g elements tests first + 1 ≤ missing f elements tests first
+  missing_less [] first i k x q h e single at there after before = absurd (omega (arith, h))
+  missing_less (r ∷ tests) first zero k x q h e single at there after before =
+      let here : k ≡ first = omega (arith, at) in
+      let less = passing_less (λ z. not (is_some (g first z))) (λ z. not (is_some (f first z))) (more first) elements x there
+      (ap (λ (m : ℕ). not (is_some (g m x))) (sym here) ∙ after) (ap (λ (m : ℕ). not (is_some (f m x))) (sym here) ∙ before) in
+      let one : (n : ℕ) → cond {A = ℕ} (is_single r) n 0 ≡ n = λ n. ap (λ (b : Bool). cond {A = ℕ} b n 0) (ap is_single (sym e) ∙ single) in
+      omega (
+        arith,
+        less,
+        one (many_passing (λ z. not (is_some (g first z))) elements),
+        one (many_passing (λ z. not (is_some (f first z))) elements),
+        missing_le tests (suc first),
+      )
+  missing_less (r ∷ tests) first (suc i) k x q h e single at there after before =
+      omega (
+        arith,
+        part_le (is_single r) (many_passing (λ z. not (is_some (g first z))) elements) (many_passing (λ z. not (is_some (f first z))) elements)
+            (passing_le (λ z. not (is_some (g first z))) (λ z. not (is_some (f first z))) (more first) elements),
+        missing_less tests (suc first) i k x q (omega (arith, h)) e single (omega (arith, at)) there after before,
+      )
 
-missing_few : (f : ℕ → ℕ → Option Bool) (elements : List ℕ) (n : ℕ) → missing f elements n ≤ n * length elements
-missing_few f elements zero = omega arith
-missing_few f elements (suc n) =
-    let e : suc n * length elements ≡ length elements + n * length elements = grind arith in
-    omega (arith, e, passing_few (λ z. not (is_some (f n z))) elements, missing_few f elements n)
+missing_few : (f : ℕ → ℕ → Option Bool) (elements : List ℕ) (tests : List Test) (k : ℕ) → missing f elements tests k ≤ many_single tests * length elements
+missing_few f elements [] k = omega arith
+missing_few f elements (q ∷ tests) k = by (is_single q) (missing_few f elements tests (suc k))
+  where
+    by : (b : Bool) → missing f elements tests (suc k) ≤ many_single tests * length elements →
+        cond {A = ℕ} b (many_passing (λ z. not (is_some (f k z))) elements) 0 + missing f elements tests (suc k) ≤ (cond {A = ℕ} b 1 0 + many_single tests) * length elements
+    by true h =
+        let e : (1 + many_single tests) * length elements ≡ length elements + many_single tests * length elements = grind arith in
+        omega (arith, e, passing_few (λ z. not (is_some (f k z))) elements, h)
+    by false h = omega (arith, h)
 
 -- ---- one answer more
 
@@ -90,16 +105,18 @@ module _ (old new : List (List (ℕ × Bool))) (k x : ℕ) (b : Bool) (h : Notes
 
   module _ (t : Tree) (steps : List Step) where
     -- it isn't missing any more
-    pub fewer_unknown : k < length (chain_tests steps) → is_in (all t) x ≡ true → answer_at old k x ≡ None → unknown t steps new + 1 ≤ unknown t steps old
+    pub fewer_unknown : (q : Test) → k < length (chain_cells steps) → q ≡ get_or (chain_cells steps) k q → is_single q ≡ true → is_in (all t) x ≡ true → answer_at old k x ≡ None →
+        unknown t steps new + 1 ≤ unknown t steps old
     unfolding unknown
-    fewer_unknown within there none =
-        missing_less (answer_at old) (answer_at new) (all t) on (length (chain_tests steps)) k x within there (ap (λ (o : Option Bool). not (is_some o)) now) (ap (λ (o : Option Bool). not (is_some o)) none)
+    fewer_unknown q within at single there none =
+        missing_less (answer_at old) (answer_at new) (all t) on (chain_cells steps) 0 k k x q within at single (omega arith) there
+        (ap (λ (o : Option Bool). not (is_some o)) now) (ap (λ (o : Option Bool). not (is_some o)) none)
 
     pub no_more_unknown : unknown t steps new ≤ unknown t steps old
     unfolding unknown
-    no_more_unknown = missing_le (answer_at old) (answer_at new) (all t) on (length (chain_tests steps))
+    no_more_unknown = missing_le (answer_at old) (answer_at new) (all t) on (chain_cells steps) 0
 
-    module _ (path : Bytes) (q : Test) (at : q ≡ get_or (chain_tests steps) k q) where
+    module _ (path : Bytes) (q : Test) (at : q ≡ get_or (chain_cells steps) k q) where
       -- what was right stays so, where the answer is right
       pub right_more : IsRight t steps old path → b ≡ holds pattern_found t path q x → IsRight t steps new path
       right_more right is = record {
@@ -108,11 +125,11 @@ module _ (old new : List (List (ℕ × Bool))) (k x : ℕ) (b : Bool) (h : Notes
       }
         where
           by : (j z : ℕ) (d : Bool) (r : Test) (v : Bool) → ((k == j) && (x == z)) ≡ v → cond v (Some b) (answer_at old j z) ≡ Some d →
-              j < length new → r ≡ get_or (chain_tests steps) j r → d ≡ holds pattern_found t path r z
+              j < length new → r ≡ get_or (chain_cells steps) j r → d ≡ holds pattern_found t path r z
           by j z d r true e found within place =
               let same = both_are k j x z e in
-              let there : j < length (chain_tests steps) = omega (arith, within, h.long, right.long) in
-              let one : r ≡ q = place ∙ any_default (chain_tests steps) j r q there ∙ ap (λ (n : ℕ). get_or (chain_tests steps) n q) (sym same.0) ∙ sym at in
+              let there : j < length (chain_cells steps) = omega (arith, within, h.long, right.long) in
+              let one : r ≡ q = place ∙ any_default (chain_cells steps) j r q there ∙ ap (λ (n : ℕ). get_or (chain_cells steps) n q) (sym same.0) ∙ sym at in
               let answer : b ≡ d = cc in
               sym answer ∙ is ∙ ap (λ (v : Test). holds pattern_found t path v x) (sym one) ∙ ap (holds pattern_found t path r) same.1
           by j z d r false e found within place = right.right j z d r (omega (arith, within, h.long)) place found
@@ -143,7 +160,7 @@ pub one_blank : (many : ℕ) → blanks many ++ ([] ∷ []) ≡ blanks (suc many
 one_blank zero = refl
 one_blank (suc many) = ap (λ (l : List (List (ℕ × Bool))). [] ∷ l) (one_blank many)
 
-pub none_right : (t : Tree) (steps : List Step) (path : Bytes) (many : ℕ) → many ≡ length (chain_tests steps) → IsRight t steps (replicate many []) path
+pub none_right : (t : Tree) (steps : List Step) (path : Bytes) (many : ℕ) → many ≡ length (chain_cells steps) → IsRight t steps (replicate many []) path
 none_right t steps path many e = record {
   long = length-replicate many [] ∙ e;
   right = λ k x b q within place found.
@@ -154,4 +171,6 @@ none_right t steps path many e = record {
 
 pub few_unknown : (t : Tree) (steps : List Step) (notes : List (List (ℕ × Bool))) → unknown t steps notes ≤ length (chain_tests steps) * length (all t)
 unfolding unknown
-few_unknown t steps notes = missing_few (answer_at notes) (all t) (length (chain_tests steps))
+few_unknown t steps notes =
+    let n : many_single (chain_cells steps) * length (all t) ≡ length (chain_tests steps) * length (all t) = ap (λ k. k * length (all t)) (chain_single_tests steps) in
+    omega (arith, missing_few (answer_at notes) (all t) (chain_cells steps) 0, n)

@@ -7,7 +7,7 @@ ghost use Rattle.selector_match.specs.Asked.{IsElement};
 ghost use Rattle.selector_match.specs.Kinds.{is_single};
 ghost use Rattle.proper_filters.specs.Held.{is_ready};
 ghost use Rattle.proper_filters.specs.Proper.{are_own, is_own};
-ghost use Rattle.procedural_ops.specs.Noted.{IsPart, IsRight, chain_tests, step_tests, unknown};
+ghost use Rattle.procedural_ops.specs.Noted.{IsPart, IsRight, chain_cells, step_cells, unknown};
 ghost use Rattle.procedural_ops.specs.Runs.{cost_keeps, single_keeps};
 
 use crate::count::behind_step;
@@ -32,7 +32,7 @@ pub(crate) fn singles_hold<P: Ledger>(
 ) -> Result<bool, AllocError>
     requires element { IsElement inquiry.now.dom.now x }
     requires proper { are_own inquiry.now.table.now.patterns run.now ≡ true }
-    requires at { IsPart (chain_tests inquiry.now.chain.now) begin (chain_tests run.now) }
+    requires at { IsPart (chain_cells inquiry.now.chain.now) begin (chain_cells run.now) }
     requires right { IsRight inquiry.now.dom.now inquiry.now.chain.now notes.old inquiry.now.path.now }
     ensures answer { IfOk result (λ answer. answer ≡ list_all (single_keeps inquiry.now.dom.now inquiry.now.path.now x) run.now) }
     ensures right { OnOk result (IsRight inquiry.now.dom.now inquiry.now.chain.now notes.new inquiry.now.path.now) }
@@ -66,7 +66,7 @@ fn all_of_cost<P: Ledger>(
 ) -> Result<bool, AllocError>
     requires element { IsElement inquiry.now.dom.now x }
     requires proper { are_own inquiry.now.table.now.patterns run.now ≡ true }
-    requires at { IsPart (chain_tests inquiry.now.chain.now) begin (chain_tests run.now) }
+    requires at { IsPart (chain_cells inquiry.now.chain.now) begin (chain_cells run.now) }
     requires right { IsRight inquiry.now.dom.now inquiry.now.chain.now notes.old inquiry.now.path.now }
     ensures answer { IfOk result (λ answer. answer ≡ list_all (cost_keeps inquiry.now.dom.now inquiry.now.path.now cost x) run.now) }
     ensures right { OnOk result (IsRight inquiry.now.dom.now inquiry.now.chain.now notes.new inquiry.now.path.now) }
@@ -95,7 +95,7 @@ fn step_keeps<P: Ledger>(
 ) -> Result<bool, AllocError>
     requires element { IsElement inquiry.now.dom.now x }
     requires proper { is_own inquiry.now.table.now.patterns step.now ≡ true }
-    requires at { IsPart (chain_tests inquiry.now.chain.now) begin (step_tests step.now) }
+    requires at { IsPart (chain_cells inquiry.now.chain.now) begin (step_cells step.now) }
     requires right { IsRight inquiry.now.dom.now inquiry.now.chain.now notes.old inquiry.now.path.now }
     ensures answer { IfOk result (λ answer. answer ≡ cost_keeps inquiry.now.dom.now inquiry.now.path.now cost x step.now) }
     ensures right { OnOk result (IsRight inquiry.now.dom.now inquiry.now.chain.now notes.new inquiry.now.path.now) }
@@ -126,7 +126,7 @@ fn test_holds<P: Ledger>(
     requires element { IsElement inquiry.now.dom.now x }
     requires single { is_single test.now ≡ true }
     requires ready { is_ready inquiry.now.table.now.patterns test.now ≡ true }
-    requires at { IsPart (chain_tests inquiry.now.chain.now) place (test.now ∷ []) }
+    requires at { IsPart (chain_cells inquiry.now.chain.now) place (test.now ∷ []) }
     requires right { IsRight inquiry.now.dom.now inquiry.now.chain.now notes.old inquiry.now.path.now }
     ensures answer { IfOk result (λ answer. answer ≡ holds pattern_found inquiry.now.dom.now inquiry.now.path.now test.now x) }
     ensures right { OnOk result (IsRight inquiry.now.dom.now inquiry.now.chain.now notes.new inquiry.now.path.now) }

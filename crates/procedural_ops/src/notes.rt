@@ -1,10 +1,9 @@
 //! The answers that are remembered while a chain is asked about one element.
 ghost use Rattle.std.specs.Prelude.{◌≡◌, ◌<◌, ◌+◌, ◌==◌, length, None, Some, Bool, ℕ, [], cond, nat_eq, replicate, OnOk, OnErr, IfOk, IsSome};
 ghost use Rattle.std.specs.Map.{lookup};
-ghost use Rattle.procedural_ops.specs.Noted.{answer_at, chain_tests, selector_tests, step_tests, test_tests, Notes};
+ghost use Rattle.procedural_ops.specs.Noted.{answer_at, Notes};
 
 use indexmap::IndexMap;
-use selector_tree::{Chain, Step, Test};
 use std::alloc::{AllocError, Global};
 use std::marker::Model;
 
@@ -46,7 +45,7 @@ impl Column {
     }
 }
 
-/// The answers of all tests of a chain, those without selectors in them, at any depth. Memory is taken for each answer.
+/// The answers of all tests of a chain, at any depth. Memory is taken for each answer.
 #[derive(Drop)]
 pub(crate) struct Noted {
     columns: Vec<Column>,

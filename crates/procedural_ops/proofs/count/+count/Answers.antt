@@ -36,15 +36,16 @@ behind_step-returns-in-UpwardTo t c =
 
 pub behind_test-returns-in-Is : goal.behind_test-returns-in-Is
 behind_test-returns-in-Is t c =
-    subst (λ (n : ℕ). IfOk c.behind_selector.result (λ place. place ≡ c.args.first + n))
-    (ap (λ (l : List Test). length l) (sym (parts.of_Is c.args.test.now c.in-Is.selector c.as_slice.result.now c.in-Is.is (c.as_slice.ensures ∙ c.get.ensures)))) c.behind_selector.ensures
+    let long = ap (λ (l : List Test). length l) (parts.of_Is c.args.test.now c.in-Is.selector c.as_slice.result.now c.in-Is.is (c.as_slice.ensures ∙ c.get.ensures)) in
+    subst (λ (n : ℕ). IfOk c.behind_selector.result (λ place. place ≡ n)) (omega (arith, long, c.in_ok-inside.ensures)) c.behind_selector.ensures
 
 pub behind_test-returns-in-Not : goal.behind_test-returns-in-Not
 behind_test-returns-in-Not t c =
-    subst (λ (n : ℕ). IfOk c.behind_selector-in-Not.result (λ place. place ≡ c.args.first + n))
-    (ap (λ (l : List Test). length l) (sym (parts.of_Not c.args.test.now c.in-Not.selector c.as_slice-in-Not.result.now c.in-Not.is (c.as_slice-in-Not.ensures ∙ c.get-in-Not.ensures)))) c.behind_selector-in-Not.ensures
+    let long = ap (λ (l : List Test). length l) (parts.of_Not c.args.test.now c.in-Not.selector c.as_slice-in-Not.result.now c.in-Not.is (c.as_slice-in-Not.ensures ∙ c.get-in-Not.ensures)) in
+    subst (λ (n : ℕ). IfOk c.behind_selector-in-Not.result (λ place. place ≡ n)) (omega (arith, long, c.in_ok-inside.ensures)) c.behind_selector-in-Not.ensures
 
 pub behind_test-returns-in-Has : goal.behind_test-returns-in-Has
 behind_test-returns-in-Has t c =
-    subst (λ (n : ℕ). IfOk c.behind_selector-in-Has.result (λ place. place ≡ c.args.first + n))
-    (ap (λ (l : List Test). length l) (sym (parts.of_Has c.args.test.now c.in-Has.selector c.as_slice-in-Has.result.now c.in-Has.is (c.as_slice-in-Has.ensures ∙ c.get-in-Has.ensures)))) c.behind_selector-in-Has.ensures
+    let long = ap (λ (l : List Test). length l) (parts.of_Has c.args.test.now c.in-Has.selector c.as_slice-in-Has.result.now c.in-Has.is (c.as_slice-in-Has.ensures ∙ c.get-in-Has.ensures)) in
+    subst (λ (n : ℕ). IfOk c.behind_selector-in-Has.result (λ place. place ≡ n)) (omega (arith, long, c.in_ok-inside.ensures)) c.behind_selector-in-Has.ensures
+

@@ -1,7 +1,7 @@
 use Rattle.std.proofs.Common.{refl, ap, sym, ◌∙◌, arith}
 use Rattle.std.proofs.lemmas.Bool.{and_from}
 use Rattle.std.proofs.lemmas.List.Folds.{list_all_more}
-use Rattle.procedural_ops.specs.Noted.{chain_tests}
+use Rattle.procedural_ops.specs.Noted.{chain_cells}
 use Rattle.procedural_ops.specs.Runs.{cost_keeps}
 use Rattle.procedural_ops.proofs.Parts as parts
 use Rattle.procedural_ops.proofs.Weights as weights
@@ -20,7 +20,7 @@ step_keeps-requires-clause-proper g c = weights.own_step_at c.args.inquiry.now.t
 
 pub step_keeps-requires-clause-at : goal.step_keeps-requires-clause-at
 step_keeps-requires-clause-at g c =
-    parts.part_step (chain_tests c.args.inquiry.now.chain.now) c.args.begin c.args.run.now c.loop-step.step-index c.loop-step.place c.step-item.result c.requires.at c.loop-step-test.true c.step-item.is
+    parts.part_step (chain_cells c.args.inquiry.now.chain.now) c.args.begin c.args.run.now c.loop-step.step-index c.loop-step.place c.step-item.result c.requires.at c.loop-step-test.true c.step-item.is
     c.loop-step.invariant.at
 
 pub loop-step-preserved : goal.loop-step-preserved

@@ -1,5 +1,5 @@
 use Rattle.std.proofs.Common.{sym, ◌∙◌, subst}
-use Rattle.procedural_ops.specs.Noted.{IsPart, chain_tests}
+use Rattle.procedural_ops.specs.Noted.{IsPart, chain_cells}
 use Rattle.procedural_ops.proofs.Keeping as keeping
 use Rattle.procedural_ops.proofs.Parts as parts
 use Rattle.procedural_ops.proofs.Weights as weights
@@ -15,6 +15,6 @@ test_holds-requires-clause-ready g c =
 
 pub test_holds-requires-clause-at : goal.test_holds-requires-clause-at
 test_holds-requires-clause-at g c =
-    subst (IsPart (chain_tests c.args.inquiry.now.chain.now) c.args.begin)
+    subst (IsPart (chain_cells c.args.inquiry.now.chain.now) c.args.begin)
     (parts.of_Keep c.args.step.now c.in-Keep.test c.in-Keep.is ∙ parts.of_single c.in-Keep.test (keeping.single_cost c.in-Keep.test c.args.cost (sym c.has_cost.ensures ∙ c.if-has_cost.true)))
     c.requires.at

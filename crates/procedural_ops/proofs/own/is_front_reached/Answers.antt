@@ -1,14 +1,15 @@
 use Rattle.std.proofs.Common.{ℕ, Bool, List, ◌∙◌, length, sym, subst, arith}
 use Rattle.page_tree.specs.Standings.{all}
 use Rattle.procedural_ops.specs.Count.{many_asked}
-use Rattle.procedural_ops.specs.Noted.{IsRight, chain_tests}
+use Rattle.procedural_ops.specs.Noted.{IsRight, chain_tests, chain_cells}
 use Rattle.procedural_ops.proofs.Simple as simple
 use Rattle.procedural_ops.proofs.Parts as parts
+use Rattle.procedural_ops.proofs.Totals as totals
 use Rattle.procedural_ops.proofs.Remembered as remembered
 use Rattle.procedural_ops.proofs.own.is_front_reached.Goals as goal
 
 pub is_reached-requires-2-clause-at : goal.is_reached-requires-2-clause-at
-is_reached-requires-2-clause-at g c = parts.part_all (chain_tests c.args.steps.now)
+is_reached-requires-2-clause-at g c = parts.part_all (chain_cells c.args.steps.now)
 
 pub is_reached-requires-2-clause-right : goal.is_reached-requires-2-clause-right
 is_reached-requires-2-clause-right g c =
@@ -24,4 +25,4 @@ returns-clause-asked g c = omega (arith, c.is_reached-2.ensures.asked, remembere
 pub returns-then-is_plain-clause-asked : goal.returns-then-is_plain-clause-asked
 returns-then-is_plain-clause-asked g c =
     simple.product_few (many_asked c.args.steps.now) (length (chain_tests c.args.steps.now)) (length (all c.args.dom.now)) c.args.parts.now c.is_reached.new.parts c.is_reached.ensures.asked
-    (parts.plain_tests c.args.steps.now (sym c.is_plain.ensures ∙ c.if-is_plain.true))
+    (totals.plain_tests c.args.steps.now (sym c.is_plain.ensures ∙ c.if-is_plain.true))

@@ -6,7 +6,7 @@ use Rattle.selector_tree.specs.declared.selector.Step.{Step}
 use Rattle.procedural_ops.specs.Noted.{chain_tests, step_tests, nested_tests}
 use Rattle.procedural_ops.specs.Runs.{is_nested, nested_keeps}
 use Rattle.procedural_ops.proofs.Compounds as own
-use Rattle.procedural_ops.proofs.Parts as parts
+use Rattle.procedural_ops.proofs.Totals as parts
 use Rattle.procedural_ops.proofs.Simple as simple
 use Rattle.procedural_ops.proofs.Weights as weights
 use Rattle.selector_tree.specs.declared.selector.Test.{Test}

@@ -2,7 +2,7 @@ use Rattle.std.proofs.Common.{length, sym, ◌∙◌}
 use Rattle.page_tree.specs.Standings.{all}
 use Rattle.procedural_ops.specs.Count.{many_asked}
 use Rattle.procedural_ops.specs.Noted.{chain_tests}
-use Rattle.procedural_ops.proofs.Parts as parts
+use Rattle.procedural_ops.proofs.Totals as parts
 use Rattle.procedural_ops.proofs.Simple as simple
 use Rattle.procedural_ops.proofs.verdict.chain_selects.Goals as goal
 

@@ -4,7 +4,7 @@ use Rattle.page_tree.specs.Directions.{is_in}
 use Rattle.selector_tree.specs.declared.selector.Step.{Step}
 use Rattle.procedural_ops.specs.Noted.{chain_tests, simple_tests}
 use Rattle.procedural_ops.specs.Reaching.{reached, is_selected}
-use Rattle.procedural_ops.proofs.Parts as parts
+use Rattle.procedural_ops.proofs.Totals as parts
 use Rattle.procedural_ops.proofs.Simple as simple
 use Rattle.procedural_ops.proofs.Steps as steps
 use Rattle.procedural_ops.proofs.Walking as walking
