@@ -6,7 +6,7 @@ use Rattle.selector_tree.specs.declared.selector.Step.{Step}
 use Rattle.procedural_ops.specs.Noted.{chain_tests, step_tests, nested_tests}
 use Rattle.procedural_ops.specs.Runs.{is_nested, nested_keeps}
 use Rattle.procedural_ops.proofs.Compounds as own
-use Rattle.procedural_ops.proofs.Totals as parts
+use Rattle.procedural_ops.proofs.Totals as totals
 use Rattle.procedural_ops.proofs.Simple as simple
 use Rattle.procedural_ops.proofs.Weights as weights
 use Rattle.selector_tree.specs.declared.selector.Test.{Test}
@@ -19,7 +19,7 @@ nested_keeps-requires-clause-proper g c = weights.own_slice c.args.table.now.pat
 pub returns-in_err-nested_keeps-clause-asked : goal.returns-in_err-nested_keeps-clause-asked
 returns-in_err-nested_keeps-clause-asked g c =
     let one = own.one_step c.args.run.now c.loop-i.i c.index-run-i.result c.loop-i-test.true c.index-run-i.is in
-    let long : length (chain_tests (take ((c.loop-i.i + 1) - c.loop-i.i) (drop c.loop-i.i c.args.run.now))) ≡ length (step_tests c.index-run-i.result) = ap (λ (l : List Step). length (chain_tests l)) one ∙ ap (λ (l : List Test). length l) (parts.chain_single c.index-run-i.result) in
+    let long : length (chain_tests (take ((c.loop-i.i + 1) - c.loop-i.i) (drop c.loop-i.i c.args.run.now))) ≡ length (step_tests c.index-run-i.result) = ap (λ (l : List Step). length (chain_tests l)) one ∙ ap (λ (l : List Test). length l) (totals.chain_single c.index-run-i.result) in
     let m = own.nested_more c.args.run.now c.loop-i.i c.index-run-i.result c.loop-i-test.true c.index-run-i.is in
     let yes : cond {A = ℕ} (is_nested c.index-run-i.result) (length (step_tests c.index-run-i.result)) 0 ≡ length (step_tests c.index-run-i.result) =
     ap (λ (b : Bool). cond {A = ℕ} b (length (step_tests c.index-run-i.result)) 0) (sym c.is_nested.ensures ∙ c.if-is_nested.true) in
@@ -30,7 +30,7 @@ returns-in_err-nested_keeps-clause-asked g c =
 pub returns-then-not-branch-clause-asked : goal.returns-then-not-branch-clause-asked
 returns-then-not-branch-clause-asked g c =
     let one = own.one_step c.args.run.now c.loop-i.i c.index-run-i.result c.loop-i-test.true c.index-run-i.is in
-    let long : length (chain_tests (take ((c.loop-i.i + 1) - c.loop-i.i) (drop c.loop-i.i c.args.run.now))) ≡ length (step_tests c.index-run-i.result) = ap (λ (l : List Step). length (chain_tests l)) one ∙ ap (λ (l : List Test). length l) (parts.chain_single c.index-run-i.result) in
+    let long : length (chain_tests (take ((c.loop-i.i + 1) - c.loop-i.i) (drop c.loop-i.i c.args.run.now))) ≡ length (step_tests c.index-run-i.result) = ap (λ (l : List Step). length (chain_tests l)) one ∙ ap (λ (l : List Test). length l) (totals.chain_single c.index-run-i.result) in
     let m = own.nested_more c.args.run.now c.loop-i.i c.index-run-i.result c.loop-i-test.true c.index-run-i.is in
     let yes : cond {A = ℕ} (is_nested c.index-run-i.result) (length (step_tests c.index-run-i.result)) 0 ≡ length (step_tests c.index-run-i.result) =
     ap (λ (b : Bool). cond {A = ℕ} b (length (step_tests c.index-run-i.result)) 0) (sym c.is_nested.ensures ∙ c.if-is_nested.true) in
@@ -41,7 +41,7 @@ returns-then-not-branch-clause-asked g c =
 pub loop-i-preserved : goal.loop-i-preserved
 loop-i-preserved g c =
     let one = own.one_step c.args.run.now c.loop-i.i c.index-run-i.result c.loop-i-test.true c.index-run-i.is in
-    let long : length (chain_tests (take ((c.loop-i.i + 1) - c.loop-i.i) (drop c.loop-i.i c.args.run.now))) ≡ length (step_tests c.index-run-i.result) = ap (λ (l : List Step). length (chain_tests l)) one ∙ ap (λ (l : List Test). length l) (parts.chain_single c.index-run-i.result) in
+    let long : length (chain_tests (take ((c.loop-i.i + 1) - c.loop-i.i) (drop c.loop-i.i c.args.run.now))) ≡ length (step_tests c.index-run-i.result) = ap (λ (l : List Step). length (chain_tests l)) one ∙ ap (λ (l : List Test). length l) (totals.chain_single c.index-run-i.result) in
     let m = own.nested_more c.args.run.now c.loop-i.i c.index-run-i.result c.loop-i-test.true c.index-run-i.is in
     elim c.else-is_nested.branch [
       | else-is_nested-via-then-is_nested+in_ok-nested_keeps+else-not-branch w ↦

@@ -1,11 +1,11 @@
 use Rattle.std.proofs.Common.{ℕ, Bool, List, sym, subst, arith}
-use Rattle.procedural_ops.specs.Noted.{IsRight, chain_tests}
+use Rattle.procedural_ops.specs.Noted.{IsRight, chain_cells}
 use Rattle.procedural_ops.proofs.Parts as parts
 use Rattle.procedural_ops.proofs.Remembered as remembered
 use Rattle.procedural_ops.proofs.own.nested_keeps.Goals as goal
 
 pub nested_hold-requires-clause-at : goal.nested_hold-requires-clause-at
-nested_hold-requires-clause-at g c = parts.part_all (chain_tests c.args.run.now)
+nested_hold-requires-clause-at g c = parts.part_all (chain_cells c.args.run.now)
 
 pub nested_hold-requires-clause-right : goal.nested_hold-requires-clause-right
 nested_hold-requires-clause-right g c =

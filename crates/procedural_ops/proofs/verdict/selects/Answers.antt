@@ -4,7 +4,7 @@ use Rattle.page_tree.specs.Directions.{is_in}
 use Rattle.selector_tree.specs.declared.selector.Step.{Step}
 use Rattle.procedural_ops.specs.Noted.{chain_tests, simple_tests}
 use Rattle.procedural_ops.specs.Reaching.{reached, is_selected}
-use Rattle.procedural_ops.proofs.Totals as parts
+use Rattle.procedural_ops.proofs.Totals as totals
 use Rattle.procedural_ops.proofs.Simple as simple
 use Rattle.procedural_ops.proofs.Steps as steps
 use Rattle.procedural_ops.proofs.Walking as walking
@@ -28,38 +28,38 @@ returns-clause-answer g c =
 
 pub returns-in_err-chain_selects-clause-asked : goal.returns-in_err-chain_selects-clause-asked
 returns-in_err-chain_selects-clause-asked g c =
-    let m = parts.more_tests c.args.selector.now c.loop-chain.chain-index c.chain-item.result c.loop-chain-test.true c.chain-item.is in
+    let m = totals.more_tests c.args.selector.now c.loop-chain.chain-index c.chain-item.result c.loop-chain-test.true c.chain-item.is in
     let one : simple_tests (take (c.loop-chain.chain-index + 1) c.args.selector.now) ≡ simple_tests (take c.loop-chain.chain-index c.args.selector.now) + length (chain_tests c.as_slice.result.now) =
     m ∙ ap (λ (s : List Step). simple_tests (take c.loop-chain.chain-index c.args.selector.now) + length (chain_tests s)) (sym c.as_slice.ensures) in
     let p = simple.product_more (simple_tests (take c.loop-chain.chain-index c.args.selector.now)) (length (chain_tests c.as_slice.result.now)) (simple_tests (take (c.loop-chain.chain-index + 1) c.args.selector.now))
     (length (all c.args.dom.now)) c.args.parts.now c.loop-chain.parts c.chain_selects.new.parts c.loop-chain.invariant.asked c.chain_selects.ensures.asked one in
     simple.product_few (simple_tests (take (c.loop-chain.chain-index + 1) c.args.selector.now)) (simple_tests c.args.selector.now) (length (all c.args.dom.now)) c.args.parts.now c.chain_selects.new.parts p
-    (parts.few_tests c.args.selector.now (c.loop-chain.chain-index + 1))
+    (totals.few_tests c.args.selector.now (c.loop-chain.chain-index + 1))
 
 pub returns-then-branch-clause-asked : goal.returns-then-branch-clause-asked
 returns-then-branch-clause-asked g c =
-    let m = parts.more_tests c.args.selector.now c.loop-chain.chain-index c.chain-item.result c.loop-chain-test.true c.chain-item.is in
+    let m = totals.more_tests c.args.selector.now c.loop-chain.chain-index c.chain-item.result c.loop-chain-test.true c.chain-item.is in
     let one : simple_tests (take (c.loop-chain.chain-index + 1) c.args.selector.now) ≡ simple_tests (take c.loop-chain.chain-index c.args.selector.now) + length (chain_tests c.as_slice.result.now) =
     m ∙ ap (λ (s : List Step). simple_tests (take c.loop-chain.chain-index c.args.selector.now) + length (chain_tests s)) (sym c.as_slice.ensures) in
     let p = simple.product_more (simple_tests (take c.loop-chain.chain-index c.args.selector.now)) (length (chain_tests c.as_slice.result.now)) (simple_tests (take (c.loop-chain.chain-index + 1) c.args.selector.now))
     (length (all c.args.dom.now)) c.args.parts.now c.loop-chain.parts c.chain_selects.new.parts c.loop-chain.invariant.asked c.chain_selects.ensures.asked one in
     simple.product_few (simple_tests (take (c.loop-chain.chain-index + 1) c.args.selector.now)) (simple_tests c.args.selector.now) (length (all c.args.dom.now)) c.args.parts.now c.chain_selects.new.parts p
-    (parts.few_tests c.args.selector.now (c.loop-chain.chain-index + 1))
+    (totals.few_tests c.args.selector.now (c.loop-chain.chain-index + 1))
 
 pub returns-clause-asked : goal.returns-clause-asked
 returns-clause-asked g c =
     simple.product_few (simple_tests (take c.loop-chain.chain-index c.args.selector.now)) (simple_tests c.args.selector.now) (length (all c.args.dom.now)) c.args.parts.now c.loop-chain.parts c.loop-chain.invariant.asked
-    (parts.few_tests c.args.selector.now c.loop-chain.chain-index)
+    (totals.few_tests c.args.selector.now c.loop-chain.chain-index)
 
 pub loop-chain-init : goal.loop-chain-init
-loop-chain-init g c = record { none = refl; asked = omega (arith, parts.none_in_selector c.args.selector.now) }
+loop-chain-init g c = record { none = refl; asked = omega (arith, totals.none_in_selector c.args.selector.now) }
 
 pub loop-chain-preserved : goal.loop-chain-preserved
 loop-chain-preserved g c = record {
   none = walking.any_more (λ d. is_in (reached c.args.dom.now c.args.path.now d) c.args.x) c.args.selector.now c.loop-chain.chain-index c.chain-item.result c.loop-chain-test.true c.chain-item.is c.loop-chain.invariant.none
       (ap (λ (d : List Step). is_in (reached c.args.dom.now c.args.path.now d) c.args.x) (sym c.as_slice.ensures) ∙ sym c.in_ok-chain_selects.ensures.answer ∙ c.if-branch.false);
   asked =
-      let m = parts.more_tests c.args.selector.now c.loop-chain.chain-index c.chain-item.result c.loop-chain-test.true c.chain-item.is in
+      let m = totals.more_tests c.args.selector.now c.loop-chain.chain-index c.chain-item.result c.loop-chain-test.true c.chain-item.is in
       let one : simple_tests (take (c.loop-chain.chain-index + 1) c.args.selector.now) ≡ simple_tests (take c.loop-chain.chain-index c.args.selector.now) + length (chain_tests c.as_slice.result.now) =
       m ∙ ap (λ (s : List Step). simple_tests (take c.loop-chain.chain-index c.args.selector.now) + length (chain_tests s)) (sym c.as_slice.ensures) in
       let p = simple.product_more (simple_tests (take c.loop-chain.chain-index c.args.selector.now)) (length (chain_tests c.as_slice.result.now)) (simple_tests (take (c.loop-chain.chain-index + 1) c.args.selector.now))
