@@ -1,10 +1,9 @@
 -- Steps that look at what is below lead to nothing from all below an element from which they lead to nothing.
 use Rattle.std.proofs.Common.{◌≡◌, ◌==◌, ◌&&◌, ◌++◌, ◌⊎◌, ℕ, length, true, false, inl, inr, List, [], ◌∷◌, All, Option, Some, None, IfSome, IsSomeAnd, refl, sym, ap, ◌∙◌}
 use Rattle.std.specs.List.{list_any, list_all}
-use Rattle.std.proofs.lemmas.Bool.{eqb-true, or_cases, or_left, or_right, and_from, and_parts, both_ways, false_from_ne_true, true_from_ne_false}
+use Rattle.std.proofs.lemmas.Bool.{eqb-true, or_cases, or_left, or_right, and_from, and_parts, both_ways, false_from_ne_true}
 use Rattle.std.proofs.lemmas.List.Elements.{All-head, All-tail}
 use Rattle.cos_patterns.specs.declared.written.Written.{Written}
-use Rattle.cos_patterns.specs.Found.{pattern_found}
 use Rattle.page_tree.specs.Forest.{Tree}
 use Rattle.page_tree.specs.Standings.{all, above}
 use Rattle.page_tree.specs.Directions.{is_in}
@@ -17,7 +16,7 @@ use Rattle.selector_tree.specs.declared.selector.Test.{Test}
 use Rattle.selector_tree.specs.declared.selector.Step.TheVariants as step
 use Rattle.selector_tree.specs.declared.selector.Test.TheVariants as test
 use Rattle.selector_meaning.specs.Texts.{Bytes}
-use Rattle.selector_meaning.specs.Meaning.{holds, is_there}
+use Rattle.selector_meaning.specs.Meaning.{is_there}
 use Rattle.selector_match.specs.Asked.{IsElement}
 use Rattle.proper_filters.specs.Proper.{is_inner, are_inner, is_inner_selector}
 use Rattle.procedural_ops.specs.Reaching.{leads_from, some_leads}

@@ -1,9 +1,9 @@
 -- Where the tests of a part of a chain stand among those of the whole, and how many of them have no selector in them.
-use Rattle.std.proofs.Common.{◌≡◌, ℕ, zero, suc, ◌+◌, ◌<◌, ◌≤◌, Bool, true, false, cond, List, [], ◌∷◌, ◌++◌, map, take, drop, length, get_or, refl, sym, ap, ap₂, ◌∙◌, append_assoc, append-nil, length-append, subst, not, arith}
+use Rattle.std.proofs.Common.{◌≡◌, ℕ, zero, suc, ◌+◌, ◌<◌, Bool, true, false, cond, List, [], ◌∷◌, ◌++◌, map, take, drop, length, get_or, refl, sym, ap, ap₂, ◌∙◌, append_assoc, append-nil, length-append, subst, arith}
 use Rattle.std.proofs.lemmas.Bool.{both_ways}
 use Rattle.std.proofs.lemmas.List.{take-append-drop}
 use Rattle.selector_tree.specs.declared.selector.Place.{Place}
-use Rattle.selector_tree.specs.declared.selector.Step.{Step, fold-Step, out-Step}
+use Rattle.selector_tree.specs.declared.selector.Step.{Step, fold-Step}
 use Rattle.selector_tree.specs.declared.selector.Step.TheVariants as step
 use Rattle.selector_tree.specs.declared.selector.Step.TheOpen.{Step-F, Test-F}
 use Rattle.selector_tree.specs.declared.selector.Step.TheFolds.{fold-roll-Step, fold-roll-Test, map-Step, map-Test, ind-Step, ind-Test}
@@ -11,7 +11,7 @@ use Rattle.selector_tree.specs.declared.selector.Step.TheViews.{roll-Step, roll-
 use Rattle.selector_tree.specs.declared.selector.Test.{Test, fold-Test, out-Test}
 use Rattle.selector_tree.specs.declared.selector.Test.TheVariants as test
 use Rattle.selector_match.specs.Kinds.{is_single, is_single_at}
-use Rattle.procedural_ops.specs.Noted.{joined, tests_in_step, tests_in_test, step_tests, test_tests, chain_tests, selector_tests, IsPart, FullStep, FullTest, cells_in_step, cells_in_test, full_step, full_test, step_cells, test_cells, chain_cells, selector_cells, many_single}
+use Rattle.procedural_ops.specs.Noted.{joined, tests_in_step, tests_in_test, step_tests, test_tests, chain_tests, IsPart, FullStep, FullTest, cells_in_test, full_step, full_test, step_cells, test_cells, chain_cells, selector_cells, many_single}
 
 abbrev Tests : Type 0
 Tests = List Test
@@ -307,8 +307,7 @@ whole_test_is = ind-Test IsWholeStep IsWholeTest step_case test_case
 
 pub of_any : (q : Test) → (inner : Tests) × (test_cells q ≡ q ∷ inner)
 of_any q =
-    let e = ap (λ (p : FullTest). p) (ap whole_test (sym (roll-out-Test q)) ∙ fold-roll-Test FullStep FullTest full_step full_test (out-Test q)) in
-    (
+    let e = ap (λ (p : FullTest). p) (ap whole_test (sym (roll-out-Test q)) ∙ fold-roll-Test FullStep FullTest full_step full_test (out-Test q)) in (
       cells_in_test (map-Test FullStep FullTest Tests Tests (λ s. s.1) (λ p. p.1) (filled_test (out-Test q))),
       ap (λ (p : FullTest). p.1) e
           ∙ ap (λ (p : Test). p ∷ cells_in_test (map-Test FullStep FullTest Tests Tests (λ s. s.1) (λ r. r.1) (filled_test (out-Test q))))

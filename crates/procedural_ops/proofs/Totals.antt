@@ -3,18 +3,17 @@ use Rattle.std.proofs.Common.{◌≡◌, ℕ, zero, suc, ◌+◌, ◌<◌, ◌�
 use Rattle.std.proofs.lemmas.Bool.{both_ways, and_parts}
 use Rattle.std.proofs.lemmas.List.{take-append-drop}
 use Rattle.std.specs.List.{list_all}
-use Rattle.selector_tree.specs.declared.selector.Place.{Place}
 use Rattle.selector_tree.specs.declared.selector.Step.{Step, out-Step}
 use Rattle.selector_tree.specs.declared.selector.Step.TheVariants as step
 use Rattle.selector_tree.specs.declared.selector.Step.TheOpen.{Step-F, Test-F}
-use Rattle.selector_tree.specs.declared.selector.Step.TheFolds.{fold_out-Test, fold-roll-Step, fold-roll-Test, map-Test}
+use Rattle.selector_tree.specs.declared.selector.Step.TheFolds.{fold_out-Test, fold-roll-Step, map-Test}
 use Rattle.selector_tree.specs.declared.selector.Step.TheViews.{roll-Step, roll-Test, roll-out-Step, roll-out-Test}
 use Rattle.selector_tree.specs.declared.selector.Test.{Test, out-Test}
 use Rattle.selector_tree.specs.declared.selector.Test.TheVariants as test
 use Rattle.selector_match.specs.Kinds.{is_single, is_single_at}
 use Rattle.procedural_ops.specs.Count.{asks_at, many_asked, is_plain_step, is_plain_step_at}
 use Rattle.procedural_ops.specs.Runs.{is_keep, is_keep_at, is_nested_at}
-use Rattle.procedural_ops.specs.Noted.{tests_in_step, tests_in_test, step_tests, test_tests, chain_tests, selector_tests, nested_tests, IsPart}
+use Rattle.procedural_ops.specs.Noted.{tests_in_step, tests_in_test, step_tests, test_tests, chain_tests, selector_tests, nested_tests}
 
 abbrev Tests : Type 0
 Tests = List Test

@@ -1,7 +1,6 @@
 -- Loops over elements, each found from the one before it.
-use Rattle.std.proofs.Common.{◌≡◌, ℕ, ◌+◌, ◌<◌, Bool, true, false, not, ◌||◌, ◌&&◌, List, [], ◌∷◌, ◌++◌, take, length, get_or, Option, Some, None, MatchOption, IfSome, subst, refl, sym, ap, ◌∙◌}
-use Rattle.std.proofs.Math.Bool as bool
-use Rattle.std.proofs.lemmas.Bool.{or_from, or_left}
+use Rattle.std.proofs.Common.{◌≡◌, ℕ, ◌+◌, ◌<◌, Bool, true, false, ◌||◌, List, [], ◌∷◌, ◌++◌, take, length, get_or, Option, Some, None, MatchOption, IfSome, subst, refl, sym, ap, ◌∙◌}
+use Rattle.std.proofs.lemmas.Bool.{or_from}
 use Rattle.std.proofs.lemmas.List.{take_more}
 use Rattle.std.proofs.lemmas.List.Folds.{list_any-append}
 use Rattle.std.specs.List.{list_any}
@@ -11,12 +10,7 @@ use Rattle.page_tree.specs.Directions.{is_in}
 use Rattle.page_tree.specs.Trees.{IsTree}
 use Rattle.page_tree.proofs.Members.{filter-alike}
 use Rattle.page_tree.proofs.Elements.{stands_as_element, is_in-all-rooted, all-rooted}
-use Rattle.selector_tree.specs.declared.selector.Step.{Step}
-use Rattle.selector_meaning.specs.Texts.{Bytes}
-use Rattle.selector_meaning.specs.Meaning.{is_other, is_apart, is_beside, is_shown}
-use Rattle.procedural_ops.specs.Reaching.{reached}
 use Rattle.procedural_ops.specs.Walks.{elements_behind, order}
-use Rattle.procedural_ops.proofs.Steps.{others_by}
 
 -- the members from one on, where `behind` has those behind it
 abbrev pub from_one : (ℕ → List ℕ) → Option ℕ → List ℕ

@@ -48,4 +48,3 @@ pub behind_test-returns-in-Has : goal.behind_test-returns-in-Has
 behind_test-returns-in-Has t c =
     let long = ap (λ (l : List Test). length l) (parts.of_Has c.args.test.now c.in-Has.selector c.as_slice-in-Has.result.now c.in-Has.is (c.as_slice-in-Has.ensures ∙ c.get-in-Has.ensures)) in
     subst (λ (n : ℕ). IfOk c.behind_selector-in-Has.result (λ place. place ≡ n)) (omega (arith, long, c.in_ok-inside.ensures)) c.behind_selector-in-Has.ensures
-
