@@ -120,6 +120,31 @@ fn nested_selectors_are_answered(rt: HostRuntime) -> Result<(), Fail> {
 }
 
 #[test]
+fn nested_tests_are_asked_once(rt: HostRuntime) -> Result<(), Fail> {
+    let alloc = rt.alloc();
+    let dom = page(alloc, "<i class=x>", 60, "")?;
+    for (open, count, inner, close, x, expected) in [
+        (".x:has(:is(", 8, ".x", "))", 1, true),
+        (".x:has(:is(", 8, ".y", "))", 1, false),
+        (".x:has(:not(:has(", 5, ".y", ")))", 1, true),
+        (":not(:has(:is(", 5, ".y", ")))", 1, false),
+        (":not(:has(:is(", 5, ".y", ")))", 60, true),
+    ] {
+        let filter = nested(alloc, open, count, inner, close)?;
+        let selected = is_selected::<Brand, Brand>(
+            alloc,
+            &dom,
+            &filter,
+            x,
+            Blank::new(1),
+            Blank::new(1),
+        )?;
+        assert_eq!(rt; selected, expected, "{} at {x}", filter.as_str());
+    }
+    Ok(())
+}
+
+#[test]
 fn a_long_text_is_looked_through(rt: HostRuntime) -> Result<(), Fail> {
     let alloc = rt.alloc();
     let text = repeated(
