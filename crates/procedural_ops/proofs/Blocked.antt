@@ -1,5 +1,5 @@
 -- Steps that look at what is below lead to nothing from all below an element from which they lead to nothing.
-use Rattle.std.proofs.Common.{◌≡◌, ◌==◌, ◌&&◌, ◌++◌, ◌⊎◌, ℕ, length, true, false, inl, inr, List, [], ◌∷◌, All, Option, Some, None, IfSome, IsSomeAnd, refl, sym, ap, ◌∙◌}
+use Rattle.std.proofs.Common.{◌≡◌, ◌==◌, ◌&&◌, ◌++◌, ◌⊎◌, ℕ, length, true, false, inl, inr, List, [], ◌∷◌, All, refl, sym, ap, ◌∙◌}
 use Rattle.std.specs.List.{list_any, list_all}
 use Rattle.std.proofs.lemmas.Bool.{eqb-true, or_cases, or_left, or_right, and_from, and_parts, both_ways, false_from_ne_true}
 use Rattle.std.proofs.lemmas.List.Elements.{All-head, All-tail}
@@ -134,9 +134,3 @@ module _ (t : Tree) (tree : IsTree t) where
         let run_f = keeps_up run looks.0 i.0 f w f_is w_is up singles p.0 in
         let rest_f = rest_up rest looks.1 i.1 f w f_is w_is up p.1 in
         both_ways false refl (sym fails ∙ split f f_is ∙ and_from (list_all (keeps t path f) run) (leads_from t path rest f) run_f rest_f))
-
-  -- below an element that blocks, steps lead to nothing
-  pub under : (path : Bytes) (s : List Step) (z : ℕ) → IsElement t z → (o : Option ℕ) → IfSome o (Blocks t path s) → IsSomeAnd o (λ f. is_in (above t z) f ≡ true)
-      → false ≡ leads_from t path s z
-  under path s z z_is None blocks up = absurd up
-  under path s z z_is (Some f) blocks up = sym (blocks z z_is up)

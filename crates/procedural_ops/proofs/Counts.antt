@@ -283,10 +283,3 @@ all_unasked t steps c = by_left (c.here.left == 0)
     by_left : (b : Bool) → cond b 0 (unasked t steps c) ≤ many_asked steps * length (all t)
     by_left true = omega arith
     by_left false = still_few (is_past t steps c) (all t) steps 0
-
-pub some_left : (t : Tree) (steps : List Step) (c : Climb) → 0 < c.here.left → unasked_at t steps c ≡ unasked t steps c
-some_left t steps c h = by_left (c.here.left == 0) refl
-  where
-    by_left : (b : Bool) → (c.here.left == 0) ≡ b → cond b 0 (unasked t steps c) ≡ unasked t steps c
-    by_left true e = absurd (omega (arith, h, eqb-true c.here.left 0 e))
-    by_left false e = refl

@@ -426,19 +426,6 @@ module _ (tests : Tests) (begin : ℕ) where
       IsPart tests place (chain_cells tail)
   part_tail steps tail i place p at is = subst (λ (s : List Step). IsPart tests place (chain_cells s)) (sym is) (part_rest tests begin steps i place p at)
 
--- over a part of a chain and what is behind it
-pub place_split : (place lift next i : ℕ) (steps tail : List Step) → lift ≡ place + length (chain_cells (take i steps)) → tail ≡ drop i steps → next ≡ lift + length (chain_cells tail) →
-    next ≡ place + length (chain_cells steps)
-place_split place lift next i steps tail at is on =
-    omega (
-      arith,
-      ap (λ (l : Tests). length l) (chain_cut i steps),
-      length-append (chain_cells (take i steps)) (chain_cells (drop i steps)),
-      ap (λ (l : List Step). length (chain_cells l)) is,
-      at,
-      on,
-    )
-
 pub chain_single : (s : Step) → chain_cells (s ∷ []) ≡ step_cells s
 unfolding chain_cells
 chain_single s = chain_one s [] ∙ append-nil (step_cells s)

@@ -84,11 +84,6 @@ plain_slice i k steps h =
     ∙ (and_parts (list_all is_plain_step (take k steps)) (list_all is_plain_step (drop k steps))
     (sym (all-append is_plain_step (take k steps) (drop k steps)) ∙ ap (list_all is_plain_step) (take-append-drop k steps) ∙ h)).1)).0
 
-pub plain_at : (steps : List Step) (i : ℕ) (s : Step) → i < length steps → s ≡ get_or steps i s → list_all is_plain_step steps ≡ true → is_plain_step s ≡ true
-plain_at [] i s h e all = absurd (omega (arith, h))
-plain_at (r ∷ steps) zero s h e all = ap is_plain_step e ∙ (and_parts (is_plain_step r) (list_all is_plain_step steps) all).0
-plain_at (r ∷ steps) (suc i) s h e all = plain_at steps i s (omega (arith, h)) e (and_parts (is_plain_step r) (list_all is_plain_step steps) all).1
-
 module _ (t : Tree) (path : Bytes) (x : ℕ) where
   plain_keep : (o : Step-F Step Test) (s : Step) → out-Step s ≡ o → is_plain_step s ≡ true → single_keeps t path x s ≡ keeps t path x s
   plain_keep (Step-F.Keep q) s e h =

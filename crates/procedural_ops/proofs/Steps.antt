@@ -151,15 +151,6 @@ module _ (t : Tree) (path : Bytes) where
     keep_law q e =
         by_law _ (ap (meaning t path) e ∙ step_of-Keep pattern_found t path q) ∙ is_in-filter (holds pattern_found t path q) (reached t path before) x
 
-    pub reached_kept : (q : Test) → last ≡ step.Keep q → (b c : Bool) → b ≡ holds pattern_found t path q x → b ≡ true → c ≡ is_in (reached t path before) x →
-        c ≡ is_in (reached t path steps) x
-    reached_kept q e b c h holds_it f =
-        f ∙ sym (keep_law q e ∙ ap (λ d. is_in (reached t path before) x && d) (sym h ∙ holds_it) ∙ bool.and-true (is_in (reached t path before) x))
-
-    pub reached_dropped : (q : Test) → last ≡ step.Keep q → (b : Bool) → b ≡ holds pattern_found t path q x → b ≡ false → false ≡ is_in (reached t path steps) x
-    reached_dropped q e b h fails =
-        sym (keep_law q e ∙ ap (λ d. is_in (reached t path before) x && d) (sym h ∙ fails) ∙ bool.and-false (is_in (reached t path before) x))
-
     module _ (x_is : is_in (all t) x ≡ true) where
       from_law : (r : ℕ → ℕ → Bool) → is_in (from_some t r (reached t path before)) x ≡ list_any (λ y. r y x) (reached t path before)
       from_law r =

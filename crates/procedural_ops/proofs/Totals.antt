@@ -67,16 +67,6 @@ chain_append (x ∷ xs) ys = ap (λ (l : Tests). step_tests x ++ l) (chain_appen
 pub chain_cut : (i : ℕ) (steps : List Step) → chain_tests steps ≡ chain_tests (take i steps) ++ chain_tests (drop i steps)
 chain_cut i steps = ap chain_tests (sym (take-append-drop i steps)) ∙ chain_append (take i steps) (drop i steps)
 
--- those of one more step
-pub chain_more : (run : List Step) (i : ℕ) (s : Step) → i < length run → s ≡ get_or run i s → chain_tests (take (i + 1) run) ≡ chain_tests (take i run) ++ step_tests s
-unfolding chain_tests
-chain_more [] i s h e = absurd (omega (arith, h))
-chain_more (r ∷ run) zero s h e = append-nil (step_tests r) ∙ ap step_tests (sym e)
-chain_more (r ∷ run) (suc i) s h e =
-    let n : suc i + 1 ≡ suc (i + 1) = omega arith in
-    ap (λ (k : ℕ). chain_tests (take k (r ∷ run))) n ∙ ap (λ (l : Tests). step_tests r ++ l) (chain_more run i s (omega (arith, h)) e)
-    ∙ sym (append_assoc (step_tests r) (chain_tests (take i run)) (step_tests s))
-
 -- ---- selectors
 
 pub selector_more : (l : List (List Step)) (i : ℕ) (c : List Step) → i < length l → c ≡ get_or l i c → selector_tests (take (i + 1) l) ≡ selector_tests (take i l) ++ chain_tests c

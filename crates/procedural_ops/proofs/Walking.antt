@@ -1,5 +1,5 @@
 -- Loops over elements, each found from the one before it.
-use Rattle.std.proofs.Common.{◌≡◌, ℕ, ◌+◌, ◌<◌, Bool, true, false, ◌||◌, List, [], ◌∷◌, ◌++◌, take, length, get_or, Option, Some, None, MatchOption, IfSome, subst, refl, sym, ap, ◌∙◌}
+use Rattle.std.proofs.Common.{◌≡◌, ℕ, ◌+◌, ◌<◌, Bool, false, ◌||◌, List, [], ◌∷◌, ◌++◌, take, length, get_or, Option, Some, None, MatchOption, IfSome, subst, refl, sym, ap, ◌∙◌}
 use Rattle.std.proofs.lemmas.Bool.{or_from}
 use Rattle.std.proofs.lemmas.List.{take_more}
 use Rattle.std.proofs.lemmas.List.Folds.{list_any-append}
@@ -34,9 +34,6 @@ pub all_behind : (t : Tree) → IsTree t → elements_behind t (order t) 0 ≡ a
 all_behind t tree =
     filter-alike (is_in (all t)) (stands_as_element (rooted t.nodes)) (numbers t.nodes ++ []) (λ k _. is_in-all-rooted t tree k)
     ∙ sym (all-rooted t tree)
-
-pub at_document : (t : Tree) → is_in (order t) 0 ≡ true
-at_document t = refl
 
 -- what holds of a value that is there
 pub some_of : (P : ℕ → Type 0) (o : Option ℕ) (m : ℕ) → IfSome o P → o ≡ Some m → P m
