@@ -1,5 +1,5 @@
 -- The change that a mutation is where it isn't refused, and what it makes dirty.
-use Rattle.std.specs.Prelude.{◌≡◌, ℕ, true, false, ◌&&◌, ◌||◌, List, [], ◌∷◌, is_ok}
+use Rattle.std.specs.Prelude.{◌≡◌, ℕ, Bool, true, false, ◌&&◌, ◌||◌, List, [], ◌∷◌, is_ok}
 use Rattle.std.specs.List.{list_any}
 use Rattle.std.specs.Str.{str_to_ascii_lowercase}
 use Rattle.page_tree.specs.Forest.{Tree, tops}
@@ -28,6 +28,16 @@ change_of (Insert parent place html) t = Came parent (tops (fragment_nodes t.nex
 change_of (Delete n) t = Went (parent_of t n)
 change_of (Relink n parent place) t = Moved n (parent_of t n) parent
 change_of (Path path) t = PathOf
+
+-- whether a mutation leaves the same elements in the same order
+abbrev pub keeps_elements : Mutation → Bool
+keeps_elements (SetAttr n name value) = true
+keeps_elements (DropAttr n name) = true
+keeps_elements (SetText n text) = true
+keeps_elements (Insert parent place html) = false
+keeps_elements (Delete n) = false
+keeps_elements (Relink n parent place) = false
+keeps_elements (Path path) = true
 
 -- whether a change makes x dirty for the filter at a place, in the page just after the change
 abbrev pub is_dirty : Change → State → Pairs

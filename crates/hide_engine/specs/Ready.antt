@@ -15,7 +15,8 @@ use Rattle.kept_marks.specs.Kept.{is_marked}
 use Rattle.retest.specs.Asked.{group_in}
 use Rattle.retest.specs.Noted.{Noted, is_pending}
 use Rattle.retest_laws.specs.Pending.{Pairs, IsRightBut}
-use Rattle.engine_meaning.specs.Filters.{AreAskable}
+use Rattle.std.specs.List.{list_any}
+use Rattle.engine_meaning.specs.Filters.{is_remove, AreAskable}
 use Rattle.engine_meaning.specs.States.{State}
 use Rattle.hide_engine.specs.declared.filter_set.FilterSet.{FilterSet}
 use Rattle.hide_engine.specs.declared.planned.Planned.{Planned}
@@ -27,11 +28,12 @@ use Rattle.hide_engine.specs.Groups.{AreGrouped}
 abbrev pub state_of : PageState → FilterSet → State
 state_of page filters = record { page = page; filters = filters.active }
 
--- the filters may be asked, they stand under their keys, and each is in the group of its sensors
+-- the filters may be asked, they stand under their keys, each is in the group of its sensors, and it is known whether one removes
 pub record AreReady (filters : FilterSet) : Type 0 where
   pub askable : AreAskable filters.table.patterns filters.active
   pub filed : AreFiled filters.active filters.keyed
   pub grouped : AreGrouped filters.active filters.groups.sets.items filters.groups.numbers
+  pub removing : filters.removes ≡ list_any is_remove filters.active
 
 -- what an engine keeps: its filters are ready, and its marks are exact
 pub record IsKept (page : PageState) (filters : FilterSet) (rows : List (ℕ × List ℕ)) : Type 0 where

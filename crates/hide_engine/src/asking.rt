@@ -1,8 +1,9 @@
 // Asking again what changes of the page may have touched, and all at the start.
-ghost use Rattle.std.specs.Prelude.{◌≡◌, ◌+◌, ◌≤◌, IfOk, OnOk};
+ghost use Rattle.std.specs.Prelude.{◌≡◌, ◌+◌, ◌≤◌, false, IfOk, OnOk};
 ghost use Rattle.hide_engine.specs.Budgets.{budget_of, start_budget};
 ghost use Rattle.hide_engine.specs.Exact.{AreExact};
 ghost use Rattle.hide_engine.specs.Ready.{state_of, pended, AreReady, IsRight};
+ghost use Rattle.kept_marks.specs.Kept.{IsSame};
 ghost use Rattle.retest.specs.Priced.{price, IsPriced};
 
 use crate::filter_set::FilterSet;
@@ -14,7 +15,7 @@ use std::alloc::{AllocError, Global};
 use std::sync::ledger::Ledger;
 
 /// Asks again what is pending, and nothing else: a filter is asked of the elements at which its group is pending and that
-/// carry a key of it.
+/// carry a key of it. The answer is whether a mark is another one than before.
 pub(crate) fn ask_again<L: Ledger, P: Ledger>(
     alloc: Global,
     page: &PageState,
@@ -23,12 +24,13 @@ pub(crate) fn ask_again<L: Ledger, P: Ledger>(
     marks: &mut Marks,
     checks: &mut Steps<L>,
     parts: &mut Steps<P>,
-) -> Result<(), AllocError>
+) -> Result<bool, AllocError>
     requires ready { AreReady filters.now }
     requires right { IsRight page.now filters.now marks.old pending.now }
     ensures exact { OnOk result (AreExact (state_of page.now filters.now) marks.new) }
     ensures checks { checks.new ≤ checks.old + budget_of (state_of page.now filters.now) (pended filters.now pending.now) }
     ensures parts { IsPriced (price filters.now.active page.now.tree) checks.old checks.new parts.old parts.new }
+    ensures same { IfOk result (λ changed. changed ≡ false → IsSame marks.old marks.new) }
 {
     let asking = Asking {
         dom: &page.tree,

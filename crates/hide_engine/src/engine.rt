@@ -1,7 +1,8 @@
-ghost use Rattle.std.specs.Prelude.{◌≡◌, ◌+◌, ◌≤◌, [], map, IfOk, IsErr};
+ghost use Rattle.std.specs.Prelude.{◌≡◌, ◌+◌, ◌≤◌, true, [], map, length, IfOk, IsErr};
 ghost use Rattle.cos_patterns.specs.Found.{pattern_found};
 ghost use Rattle.hide_engine.specs.Budgets.{start_budget, start_tests, event_budget, event_tests, round_budget, round_tests};
 ghost use Rattle.hide_engine.specs.Changes.{change_of, IsUnseen};
+ghost use Rattle.hide_engine.specs.Chosen.{HidesSame};
 ghost use Rattle.engine_meaning.specs.Filters.{AreAskable};
 ghost use Rattle.engine_meaning.specs.Hidden.{pair_of};
 ghost use Rattle.engine_meaning.specs.States.{mutated, hidden_of, rounded, round_of};
@@ -11,14 +12,14 @@ ghost use Rattle.hide_engine.specs.Exact.{AreExact};
 
 use crate::asking::ask_everything;
 use crate::filter_set::FilterSet;
-use crate::renewing::{mutate, take_round};
-use crate::rows::hidden_rows;
+use crate::renewing::{Mutated, mutate, take_round};
+use crate::rows::{acting_rows, hidden_rows};
 use cos_outside::Steps;
 use cos_patterns::PatternTable;
 use dom_arena::Dom;
 use kept_marks::Marks;
 use mutation_script::{Mutation, Outcome, PageState};
-use selector_tree::{Active, Rows, TakenList};
+use selector_tree::{Action, Active, Rows, TakenList};
 use std::alloc::{AllocError, Global};
 use std::marker::Model;
 use std::sync::ledger::Ledger;
@@ -63,6 +64,18 @@ impl Drop for Engine {
     }
 }
 
+/// What a mutation came to.
+#[derive(Drop)]
+pub struct Applied {
+    /// The engine behind it.
+    pub engine: Engine,
+    /// Whether it was made, or why it was refused.
+    pub outcome: Outcome,
+    /// Whether the hidden elements are known to be those of before, in the same order and each by the same filters, so that
+    /// what was told of them holds on. False where that isn't known.
+    pub same: bool,
+}
+
 impl Engine {
     /// An engine for a page and its filters, whose patterns the table has. Each question whether a filter selects an element
     /// counts as one of the `checks`, and each single test that is asked for it as one of the `parts`; so in each call. A
@@ -97,10 +110,11 @@ impl Engine {
         mutation: Mutation,
         checks: &mut Steps<L>,
         parts: &mut Steps<P>,
-    ) -> Result<(Engine, Outcome), AllocError>
+    ) -> Result<Applied, AllocError>
         requires { self.page.tree.next + inserted mutation ≤ 4294967295 }
-        ensures engine { IfOk result (λ done. done.0 ≡ mutated mutation self) }
-        ensures outcome { IfOk result (λ done. done.1 ≡ outcome_of (change mutation self.page)) }
+        ensures engine { IfOk result (λ done. done.engine ≡ mutated mutation self) }
+        ensures outcome { IfOk result (λ done. done.outcome ≡ outcome_of (change mutation self.page)) }
+        ensures same { IfOk result (λ done. done.same ≡ true → HidesSame self (mutated mutation self)) }
         ensures refused { IsErr (change mutation self.page) → checks.new ≡ checks.old }
         ensures unseen { IsUnseen (change_of mutation self.page.tree) (mutated mutation self) → checks.new ≡ checks.old }
         ensures checks { checks.new ≤ checks.old + event_budget mutation self }
@@ -111,17 +125,18 @@ impl Engine {
             filters,
             mut marks,
         } = self;
-        let outcome = mutate(
+        let Mutated { outcome, same } = mutate(
             alloc, &mut page, &filters, mutation, &mut marks, checks, parts,
         )?;
-        Ok((
-            Engine {
+        Ok(Applied {
+            engine: Engine {
                 page,
                 filters,
                 marks,
             },
             outcome,
-        ))
+            same,
+        })
     }
 
     /// Takes all elements that some filter removes out of the page, and answers the outermost of them, as taken in round 1.
@@ -187,5 +202,13 @@ impl Engine {
         ensures { IfOk result (λ rows. map pair_of rows ≡ hidden_of pattern_found self.now) }
     {
         hidden_rows(alloc, &self.page, &self.filters.active, &self.marks)
+    }
+
+    /// How many elements are hidden. It takes no memory, and goes over the marked elements and not over the page.
+    pub fn hidden_count(&self) -> usize
+        ensures { result ≡ length (hidden_of pattern_found self.now) }
+    {
+        self.page.tree.is_tree();
+        acting_rows(&self.filters.active, &self.marks, Action::Hide)
     }
 }

@@ -1,12 +1,14 @@
 ghost use Rattle.std.specs.Prelude.{◌≡◌, ◌<◌, ◌^◌, length, IfOk};
-ghost use Rattle.engine_meaning.specs.Filters.{AreAskable};
+ghost use Rattle.std.specs.List.{list_any};
+ghost use Rattle.engine_meaning.specs.Filters.{is_remove, AreAskable};
 ghost use Rattle.hide_engine.specs.Exact.{AreFiled};
 ghost use Rattle.hide_engine.specs.Ready.{AreReady};
 
 use crate::groups::Groups;
+use crate::rows::is_action;
 use cos_patterns::PatternTable;
 use generic_tables::FilterTable;
-use selector_tree::Active;
+use selector_tree::{Action, Active};
 use std::alloc::{AllocError, Global};
 
 /// The filters of an engine, with the table of their patterns, by the keys of their chains, and by the sets of their sensors.
@@ -16,6 +18,8 @@ pub(crate) struct FilterSet {
     pub(crate) active: Active,
     pub(crate) keyed: FilterTable,
     pub(crate) groups: Groups,
+    /// Whether some filter removes what it selects.
+    pub(crate) removes: bool,
 }
 
 impl FilterSet {
@@ -31,11 +35,13 @@ impl FilterSet {
     {
         let keyed = filed(alloc, &active)?;
         let groups = Groups::of(alloc, &active)?;
+        let removes = some_removes(&active);
         Ok(FilterSet {
             table,
             active,
             keyed,
             groups,
+            removes,
         })
     }
 }
@@ -50,4 +56,16 @@ fn filed(alloc: Global, active: &Active) -> Result<FilterTable, AllocError>
         keyed.enter(place, &active.as_slice()[place as usize])?;
     }
     Ok(keyed)
+}
+
+// Whether one of some filters removes what it selects.
+fn some_removes(active: &Active) -> bool
+    ensures { result ≡ list_any is_remove active.now }
+{
+    for filter in active.as_slice() {
+        if is_action(Action::Remove, filter.action) {
+            return true;
+        }
+    }
+    false
 }

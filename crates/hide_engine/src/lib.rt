@@ -17,4 +17,4 @@ mod removing;
 mod renewing;
 mod rows;
 
-pub use engine::Engine;
+pub use engine::{Applied, Engine};

@@ -1,5 +1,5 @@
 // Single changes of a page, each noted just after it.
-ghost use Rattle.std.specs.Prelude.{◌≡◌, ◌+◌, ◌≤◌, ◌&&◌, ℕ, IfOk, OnOk, IsErr};
+ghost use Rattle.std.specs.Prelude.{◌≡◌, ◌+◌, ◌≤◌, ◌&&◌, not, true, ℕ, IfOk, OnOk, IsErr};
 ghost use Rattle.dependency_sets.specs.Named.{IsNamed};
 ghost use Rattle.page_tree.specs.Directions.{is_in};
 ghost use Rattle.page_tree.specs.Edits.{detached};
@@ -9,7 +9,8 @@ ghost use Rattle.mutation_script.specs.Inserted.{inserted};
 ghost use Rattle.mutation_script.specs.declared.mutation.Mutation.TheVariants.{Delete};
 ghost use Rattle.mutation_script.specs.declared.page.PageState.{PageState};
 ghost use Rattle.retest_laws.specs.Pending.{Pairs, either};
-ghost use Rattle.hide_engine.specs.Changes.{is_dirty, dirtied_by};
+ghost use Rattle.kept_marks.specs.Kept.{is_marked, IsSame};
+ghost use Rattle.hide_engine.specs.Changes.{keeps_elements, is_dirty, dirtied_by};
 ghost use Rattle.hide_engine.specs.Ready.{state_of, AreReady, IsRight, IsGiven, IsStep, goes_by};
 
 use crate::filter_set::FilterSet;
@@ -42,6 +43,7 @@ pub(crate) fn make(
     ensures given { OnOk result ((given : Pairs) → IsGiven filters.now pending.old given →
         IsGiven filters.now pending.new (either given (dirtied_by mutation (state_of page.old filters.now)))) }
     ensures refused { IsErr (change mutation page.old) → OnOk result (marks.new ≡ marks.old) }
+    ensures kept { keeps_elements mutation ≡ true → OnOk result (IsSame marks.old marks.new) }
 {
     page.tree.is_tree();
     let planned = Planned::of(alloc, &page.tree, &mutation)?;
@@ -130,6 +132,7 @@ fn follow(
         IsRight old filters.now marks.old pending.old → IsRight page.now filters.now marks.new pending.new) }
     ensures given { OnOk result ((given : Pairs) → IsGiven filters.now pending.old given →
         IsGiven filters.now pending.new (either given (is_dirty change.now (state_of page.now filters.now)))) }
+    ensures marks { (f x : ℕ) → is_marked marks.new f x ≡ (is_marked marks.old f x && not (is_in gone.now x)) }
 {
     drop_all(marks, gone);
     note(

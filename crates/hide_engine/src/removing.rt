@@ -1,22 +1,19 @@
 // A round: what the filters that remove take out of a page.
 ghost use Rattle.std.specs.Prelude.{◌≡◌, [], ◌++◌, map, IfOk, OnOk};
-ghost use Rattle.std.specs.List.{list_any};
 ghost use Rattle.cos_patterns.specs.Found.{pattern_found};
 ghost use Rattle.page_tree.specs.Standings.{name};
 ghost use Rattle.selector_match.specs.Asked.{IsElement};
 ghost use Rattle.selector_meaning.specs.Hidden.{with_row};
 ghost use Rattle.engine_meaning.specs.Rounds.{is_outermost, taken_in, without_each};
 ghost use Rattle.hide_engine.specs.Exact.{AreExact};
-ghost use Rattle.hide_engine.specs.Chosen.{acts_at};
 ghost use Rattle.hide_engine.specs.Removing.{taken_rows};
 ghost use Rattle.retest_laws.specs.Pending.{Pairs, either};
 ghost use Rattle.hide_engine.specs.Changes.{dirtied_without};
 ghost use Rattle.hide_engine.specs.Ready.{state_of, AreReady, IsRight, IsGiven};
-ghost use Rattle.selector_tree.specs.declared.filter.Action.TheVariants.{Remove};
 
 use crate::filter_set::FilterSet;
 use crate::making::take_out;
-use crate::rows::{acts_at, chosen};
+use crate::rows::{acting_rows, chosen, some_acts};
 use dom_arena::Dom;
 use kept_marks::Marks;
 use listed::{Numbers, Text};
@@ -27,8 +24,30 @@ use selector_match::parent;
 use selector_tree::{Action, Active, Taken, TakenList};
 use std::alloc::{AllocError, Global};
 
-/// The outermost of the elements that some filter removes, in document order, as taken in round 1.
+/// The outermost of the elements that some filter removes, in document order, as taken in round 1. The page is gone through
+/// only where there are some.
 pub(crate) fn taken_rows(
+    alloc: Global,
+    page: &PageState,
+    filters: &FilterSet,
+    marks: &Marks,
+) -> Result<TakenList, AllocError>
+    requires ready { AreReady filters.now }
+    requires exact { AreExact (state_of page.now filters.now) marks.now }
+    ensures { IfOk result (λ rows. rows ≡ taken_in pattern_found filters.now.active page.now.path page.now.tree 1) }
+{
+    if !filters.removes {
+        return Ok(TakenList::new(alloc));
+    }
+    page.tree.is_tree();
+    if acting_rows(&filters.active, marks, Action::Remove) == 0 {
+        return Ok(TakenList::new(alloc));
+    }
+    all_taken_rows(alloc, page, &filters.active, marks)
+}
+
+// The same by going through the page.
+fn all_taken_rows(
     alloc: Global,
     page: &PageState,
     active: &Active,
@@ -96,24 +115,12 @@ fn is_outermost(page: &PageState, active: &Active, marks: &Marks, x: u32) -> boo
     let dom = &page.tree;
     let mut at = x;
     'ancestors: while let Some(up) = parent(dom, at) {
-        if some_removes(active, marks.of(up)) {
+        if some_acts(active, marks.of(up), Action::Remove) {
             return false;
         }
         at = up;
     }
     true
-}
-
-// Whether the filter at one of the places removes.
-fn some_removes(active: &Active, places: &[u32]) -> bool
-    ensures { result ≡ list_any (acts_at active.now Remove) places.now }
-{
-    for f in places {
-        if acts_at(active, *f, Action::Remove) {
-            return true;
-        }
-    }
-    false
 }
 
 /// Takes elements out of the page one after another, each with all below it, and notes what each makes dirty.

@@ -1,11 +1,12 @@
-// The rows of hidden elements, by the marks alone.
-ghost use Rattle.std.specs.Prelude.{◌≡◌, [], ◌++◌, map, IfOk, OnOk, OnErr};
+// The rows of hidden elements, and how many there are, by the marks alone.
+ghost use Rattle.std.specs.Prelude.{◌≡◌, [], ◌++◌, map, length, IfOk, OnOk, OnErr};
+ghost use Rattle.std.specs.List.{list_any};
 ghost use Rattle.cos_patterns.specs.Found.{pattern_found};
 ghost use Rattle.engine_meaning.specs.Filters.{is_action};
 ghost use Rattle.engine_meaning.specs.Hidden.{pair_of, hidden};
 ghost use Rattle.selector_meaning.specs.Hidden.{with_row};
 ghost use Rattle.hide_engine.specs.Exact.{AreExact};
-ghost use Rattle.hide_engine.specs.Chosen.{acts_at, chosen};
+ghost use Rattle.hide_engine.specs.Chosen.{acts_at, chosen, acting_rows};
 
 use kept_marks::Marks;
 use listed::Numbers;
@@ -67,6 +68,31 @@ pub(crate) fn chosen(
     Ok(found)
 }
 
+/// How many rows of the marks have a filter of this action.
+pub(crate) fn acting_rows(active: &Active, marks: &Marks, action: Action) -> usize
+    ensures { result ≡ length (acting_rows active.now action marks.now) }
+{
+    let mut count = 0;
+    for place in 0..marks.len() {
+        if some_acts(active, marks.row_at(place), action) {
+            count += 1;
+        }
+    }
+    count
+}
+
+/// Whether the filter at one of some places has this action.
+pub(crate) fn some_acts(active: &Active, places: &[u32], action: Action) -> bool
+    ensures { result ≡ list_any (acts_at active.now action) places.now }
+{
+    for f in places {
+        if acts_at(active, *f, action) {
+            return true;
+        }
+    }
+    false
+}
+
 /// Whether the filter at a place has this action.
 pub(crate) fn acts_at(active: &Active, f: u32, action: Action) -> bool
     ensures { result ≡ acts_at active.now action f }
@@ -77,7 +103,8 @@ pub(crate) fn acts_at(active: &Active, f: u32, action: Action) -> bool
     }
 }
 
-fn is_action(a: Action, b: Action) -> bool
+/// Whether two actions are the same.
+pub(crate) fn is_action(a: Action, b: Action) -> bool
     ensures { result ≡ is_action a b }
 {
     match (a, b) {

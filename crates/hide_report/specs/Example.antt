@@ -18,7 +18,7 @@ use Rattle.dom_arena.specs.declared.refusals.DomError.TheVariants.{BadPlace}
 use Rattle.mutation_script.specs.declared.mutation.BadLine.TheVariants.{UnknownWord}
 use Rattle.mutation_script.specs.declared.answer.Answer.TheVariants.{Opened, Refused, Bad}
 use Rattle.hide_report.specs.Answers.{answer_name}
-use Rattle.hide_report.specs.Texts.{notices_text, head_text, places_text, step_text, end_text, is_filter, is_exception, is_page_option, counts_text, drill_text}
+use Rattle.hide_report.specs.Texts.{notices_text, head_text, places_text, step_text, brief_step_text, end_text, is_filter, is_exception, is_page_option, counts_text, drill_text}
 
 -- notices: a name that is missing in line 2 of the first list, and `:hover` in its line 8
 
@@ -74,6 +74,11 @@ brief_step : step_of true
     ≡ codes "step 0 opened\ntaken 1 3 div 1:1\ntaken 2 2 div 1:1\ntaken 3 1 div 1:1\nhidden 1\n"
 unfolding digits
 brief_step = refl
+
+-- so it is by their number alone
+counted_step : brief_step_text 0 (answer_name Opened) active taken 1 ≡ step_of true
+unfolding digits
+counted_step = refl
 
 -- two filters of one element; a place past the last filter has no name
 both_filters : places_text active (0 ∷ 1 ∷ 2 ∷ []) ≡ codes " 1:1 1:2\n"

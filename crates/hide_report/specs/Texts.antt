@@ -103,6 +103,10 @@ abbrev pub step_text : ℕ → List ℕ → Tree → List Filter → List Taken 
 step_text number answer t active taken rows brief =
     step_line number answer ++ flat_map (taken_text active) taken ++ hidden_text t active rows brief
 
+-- a brief step, by the number of the hidden elements alone
+abbrev pub brief_step_text : ℕ → List ℕ → List Filter → List Taken → ℕ → List ℕ
+brief_step_text number answer active taken count = step_line number answer ++ flat_map (taken_text active) taken ++ hidden_line count
+
 -- the end of the report, with the number of lines of the script
 abbrev pub end_text : ℕ → List ℕ
 end_text lines = codes "end " ++ decimal lines ++ codes "\n"

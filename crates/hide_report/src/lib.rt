@@ -13,5 +13,6 @@ mod writing;
 pub use counts::DrillCounts;
 pub use mutation_script::Answer;
 pub use writing::{
-    ReportError, write_counts, write_drill, write_end, write_head, write_notices, write_step,
+    ReportError, write_brief_step, write_counts, write_drill, write_end, write_head, write_notices,
+    write_step,
 };

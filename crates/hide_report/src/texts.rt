@@ -168,7 +168,8 @@ pub fn push_hidden(
     Ok(())
 }
 
-fn push_hidden_line(text: &mut String, count: usize) -> Result<(), AllocError>
+/// How many elements are hidden.
+pub fn push_hidden_line(text: &mut String, count: usize) -> Result<(), AllocError>
     ensures { OnOk result (string_bytes text.new ≡ string_bytes text.old ++ hidden_line count) }
 {
     write!(text, "hidden {count}\n")

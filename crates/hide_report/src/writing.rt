@@ -1,9 +1,10 @@
 // How a report is written. Each part makes its whole text first, and then writes it in one piece.
-ghost use Rattle.std.specs.Prelude.{◌≡◌, map, string_bytes};
+ghost use Rattle.std.specs.Prelude.{◌≡◌, ◌++◌, map, string_bytes, IfOk};
+ghost use Rattle.std.specs.List.{flat_map};
 ghost use Rattle.engine_meaning.specs.Hidden.{pair_of};
 ghost use Rattle.hide_report.specs.Answers.{answer_name};
 ghost use Rattle.hide_report.specs.Reported.{IsAnswer, Reports};
-ghost use Rattle.hide_report.specs.Texts.{notices_text, head_text, step_text, end_text, counts_text, drill_text};
+ghost use Rattle.hide_report.specs.Texts.{notices_text, head_text, taken_text, step_line, step_text, brief_step_text, end_text, counts_text, drill_text};
 
 use crate::answer::answer_name;
 use crate::counts::DrillCounts;
@@ -95,11 +96,46 @@ pub fn write_step<O: Sink>(
         (step_text number (answer_name answer.now) dom.now active.now taken.now
         (map pair_of rows.now) brief) result }
 {
+    let mut text = step_front(alloc, number, answer, active, taken)?;
+    texts::push_hidden(&mut text, dom, active.as_slice(), rows.as_slice(), brief)?;
+    write_text(out, &text)
+}
+
+/// Writes a brief step, by the number of the hidden elements of the page as it then stands.
+pub fn write_brief_step<O: Sink>(
+    alloc: Global,
+    out: &mut O,
+    number: u32,
+    answer: &Answer,
+    active: &Active,
+    taken: &TakenList,
+    hidden: usize,
+) -> Result<(), ReportError>
+    requires { IsAnswer answer.now }
+    ensures { Reports O.tells O.written O.faults out.old out.new
+        (brief_step_text number (answer_name answer.now) active.now taken.now hidden) result }
+{
+    let mut text = step_front(alloc, number, answer, active, taken)?;
+    texts::push_hidden_line(&mut text, hidden)?;
+    write_text(out, &text)
+}
+
+// What a step has before its hidden elements: its number, its answer, and the elements taken out.
+fn step_front(
+    alloc: Global,
+    number: u32,
+    answer: &Answer,
+    active: &Active,
+    taken: &TakenList,
+) -> Result<String, AllocError>
+    requires { IsAnswer answer.now }
+    ensures { IfOk result (λ text. string_bytes text ≡
+        step_line number (answer_name answer.now) ++ flat_map (taken_text active.now) taken.now) }
+{
     let answer = answer_name(alloc, *answer)?;
     let mut text = texts::step_line(alloc, number, answer.as_str())?;
     texts::push_taken_rows(&mut text, active.as_slice(), taken.as_slice())?;
-    texts::push_hidden(&mut text, dom, active.as_slice(), rows.as_slice(), brief)?;
-    write_text(out, &text)
+    Ok(text)
 }
 
 /// Writes the end of the report, with the number of lines of the script.

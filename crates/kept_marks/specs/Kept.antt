@@ -1,11 +1,16 @@
 -- The pairs of a filter and an element that are marked. A filter goes by its place among the active ones.
-use Rattle.std.specs.Prelude.{◌≡◌, ℕ, Bool, ◌&&◌, ◌==◌, List, [], cond, nat_eq, unwrap_or}
+use Rattle.std.specs.Prelude.{◌≡◌, ℕ, Bool, ◌&&◌, ◌==◌, List, [], cond, nat_eq, slice_get, unwrap_or}
+use Rattle.std.specs.Option.{option_map_or}
 use Rattle.std.specs.Map.{lookup}
 use Rattle.page_tree.specs.Directions.{is_in}
 
 -- the filters of an element
 abbrev pub row : List (ℕ × List ℕ) → ℕ → List ℕ
 row rows x = unwrap_or (lookup (nat_eq x) rows) []
+
+-- the filters of the row at a place; none past the last
+abbrev pub row_in : List (ℕ × List ℕ) → ℕ → List ℕ
+row_in rows place = option_map_or (λ entry. entry.1) (slice_get rows place) []
 
 -- whether a pair is marked
 abbrev pub is_marked : List (ℕ × List ℕ) → ℕ → ℕ → Bool

@@ -1,7 +1,9 @@
-ghost use Rattle.std.specs.Prelude.{◌≡◌, ◌==◌, Bool, true, false, not, ◌&&◌, ℕ, cond, OnOk, OnErr};
+ghost use Rattle.std.specs.Prelude.{◌≡◌, ◌==◌, Bool, true, false, not, ◌&&◌, ℕ, cond, length, nat_eq, OnOk, OnErr};
+ghost use Rattle.std.specs.List.{IsDistinct};
+ghost use Rattle.std.specs.Map.{keys_of};
 ghost use Rattle.page_tree.specs.Directions.{is_in};
 ghost use Rattle.kept_marks.specs.Rising.{IsRising};
-ghost use Rattle.kept_marks.specs.Kept.{row, is_marked, Sets, IsSame};
+ghost use Rattle.kept_marks.specs.Kept.{row, row_in, is_marked, Sets, IsSame};
 
 use crate::rows::Row;
 use indexmap::IndexMap;
@@ -83,6 +85,24 @@ impl Marks {
         ensures { (g y : ℕ) → is_marked self.new g y ≡ (is_marked self.old g y && not (y == x)) }
     {
         let _ = self.rows.swap_remove(&x);
+    }
+
+    /// How many elements have a row, each one. The filters of a row may be gone again. It takes no memory.
+    pub fn len(&self) -> usize
+        ensures len { result ≡ length self.now }
+        ensures once { IsDistinct nat_eq (keys_of self.now) }
+    {
+        self.rows.len()
+    }
+
+    /// The filters of the row at a place, in any order of elements; none past the last. It takes no memory.
+    pub fn row_at(&self, place: usize) -> &[u32]
+        ensures { result.now ≡ row_in self.now place }
+    {
+        match self.rows.get_index(place) {
+            Some((_, row)) => row.as_slice(),
+            None => &[],
+        }
     }
 
     /// The filters that are marked at an element, rising. It takes no memory.

@@ -3,3 +3,4 @@ pub mod Visits
 pub mod Keys
 pub mod Starting
 pub mod Pricing
+mod Same

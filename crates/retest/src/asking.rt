@@ -4,7 +4,7 @@ ghost use Rattle.std.specs.List.{list_any};
 ghost use Rattle.page_tree.specs.Standings.{all};
 ghost use Rattle.page_tree.specs.Directions.{is_in};
 ghost use Rattle.selector_match.specs.Asked.{IsElement};
-ghost use Rattle.kept_marks.specs.Kept.{is_marked, Sets};
+ghost use Rattle.kept_marks.specs.Kept.{is_marked, Sets, IsSame};
 ghost use Rattle.retest_laws.specs.Pending.{asked_again, due_at, budget, IsRightBut, IsExact};
 ghost use Rattle.retest.specs.Asked.{answers, carried, group_in, pends, IsReady};
 ghost use Rattle.retest.specs.Priced.{price, IsPriced};
@@ -177,7 +177,7 @@ fn ask_all<L: Ledger, P: Ledger>(
     Ok(())
 }
 
-// Asks again what is pending at an element.
+// Asks again what is pending at an element, and answers whether its marks are others than before.
 fn ask_at<W: Pends, L: Ledger, P: Ledger>(
     alloc: Global,
     asking: &Asking<'_>,
@@ -186,7 +186,7 @@ fn ask_at<W: Pends, L: Ledger, P: Ledger>(
     marks: &mut Marks,
     checks: &mut Steps<L>,
     parts: &mut Steps<P>,
-) -> Result<(), AllocError>
+) -> Result<bool, AllocError>
     requires ready { IsReady asking.now }
     requires element { IsElement asking.now.dom.now x }
     ensures marks { OnOk result ((g y : ℕ) → is_marked marks.new g y ≡
@@ -196,14 +196,39 @@ fn ask_at<W: Pends, L: Ledger, P: Ledger>(
         due_at (length asking.now.active.now) (carried asking.now) (λ f y. W.pends pending.now (group_in asking.now.groups.now f) y) x }
     ensures parts { IsPriced (price asking.now.active.now asking.now.dom.now)
         checks.old checks.new parts.old parts.new }
+    ensures same { IfOk result (λ changed. changed ≡ false → IsSame marks.old marks.new) }
 {
     let due = due_of(alloc, asking, pending, x)?;
     let stale = stale_of(alloc, asking.groups, pending, marks.of(x), x)?;
+    let before = copied(alloc, marks.of(x))?;
     clear_all(marks, stale.as_slice(), x);
-    ask_all(alloc, asking, due.as_slice(), x, marks, checks, parts)
+    ask_all(alloc, asking, due.as_slice(), x, marks, checks, parts)?;
+    Ok(differ(before.as_slice(), marks.of(x)))
 }
 
-// Asks again what is pending, at the elements that the page still has.
+// A copy of some numbers.
+fn copied(alloc: Global, from: &[u32]) -> Result<Numbers, AllocError>
+    ensures { IfOk result (λ copy. copy ≡ from.now) }
+{
+    let mut copy = Numbers::new(alloc);
+    copy.extend(from)?;
+    Ok(copy)
+}
+
+// Whether two lists of numbers differ.
+fn differ(a: &[u32], b: &[u32]) -> bool
+    ensures { result ≡ false → a.now ≡ b.now }
+{
+    a != b
+}
+
+fn either(a: bool, b: bool) -> bool
+    ensures { result ≡ (a || b) }
+{
+    a || b
+}
+
+// Asks again what is pending, at the elements that the page still has, and answers whether a mark is another one than before.
 fn ask_pending<L: Ledger, P: Ledger>(
     alloc: Global,
     asking: &Asking<'_>,
@@ -211,7 +236,7 @@ fn ask_pending<L: Ledger, P: Ledger>(
     marks: &mut Marks,
     checks: &mut Steps<L>,
     parts: &mut Steps<P>,
-) -> Result<(), AllocError>
+) -> Result<bool, AllocError>
     requires { IsReady asking.now }
     ensures marks { OnOk result ((f x : ℕ) → is_marked marks.new f x ≡
         asked_again (all asking.now.dom.now) (answers asking.now) (carried asking.now)
@@ -220,19 +245,22 @@ fn ask_pending<L: Ledger, P: Ledger>(
         budget (length asking.now.active.now) (all asking.now.dom.now) (carried asking.now) (pends asking.now pending.now) }
     ensures parts { IsPriced (price asking.now.active.now asking.now.dom.now)
         checks.old checks.new parts.old parts.new }
+    ensures same { IfOk result (λ changed. changed ≡ false → IsSame marks.old marks.new) }
 {
+    let mut changed = false;
     for x in pending.elements() {
         if is_element(asking.dom, *x) {
-            ask_at(alloc, asking, pending, *x, marks, checks, parts)?;
+            let one = ask_at(alloc, asking, pending, *x, marks, checks, parts)?;
+            changed = either(changed, one);
         }
     }
-    Ok(())
+    Ok(changed)
 }
 
 /// Asks again what is pending, at the elements that the page still has, each pair of a filter and an element once.
 ///
 /// Where the marks were right but for what is pending, they are exact afterwards. Elements that the page has no more must
-/// have left the marks before.
+/// have left the marks before. The answer is whether a mark is another one than before.
 pub fn retest<L: Ledger, P: Ledger>(
     alloc: Global,
     asking: &Asking<'_>,
@@ -240,7 +268,7 @@ pub fn retest<L: Ledger, P: Ledger>(
     marks: &mut Marks,
     checks: &mut Steps<L>,
     parts: &mut Steps<P>,
-) -> Result<(), AllocError>
+) -> Result<bool, AllocError>
     requires { IsReady asking.now }
     ensures marks { OnOk result ((f x : ℕ) → is_marked marks.new f x ≡
         asked_again (all asking.now.dom.now) (answers asking.now) (carried asking.now)
@@ -252,6 +280,7 @@ pub fn retest<L: Ledger, P: Ledger>(
         budget (length asking.now.active.now) (all asking.now.dom.now) (carried asking.now) (pends asking.now pending.now) }
     ensures parts { IsPriced (price asking.now.active.now asking.now.dom.now)
         checks.old checks.new parts.old parts.new }
+    ensures same { IfOk result (λ changed. changed ≡ false → IsSame marks.old marks.new) }
 {
     ask_pending(alloc, asking, pending, marks, checks, parts)
 }

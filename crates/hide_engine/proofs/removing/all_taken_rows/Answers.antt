@@ -15,7 +15,7 @@ use Rattle.hide_engine.specs.Chosen.{chosen}
 use Rattle.hide_engine.specs.Removing.{taken_rows}
 use Rattle.hide_engine.proofs.Places.{chosen_places}
 use Rattle.hide_engine.proofs.Taking.{taken_go_on}
-use Rattle.hide_engine.proofs.removing.taken_rows.Goals as goal
+use Rattle.hide_engine.proofs.removing.all_taken_rows.Goals as goal
 
 pub elements-init : goal.elements-init
 elements-init c =

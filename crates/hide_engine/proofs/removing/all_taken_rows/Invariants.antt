@@ -9,7 +9,7 @@ use Rattle.procedural_ops.proofs.Walking.{from_one}
 use Rattle.engine_meaning.specs.Hidden.{acts_on}
 use Rattle.engine_meaning.specs.Rounds.{taken_in}
 use Rattle.hide_engine.specs.Removing.{taken_rows}
-use Rattle.hide_engine.proofs.removing.taken_rows.Given as goal
+use Rattle.hide_engine.proofs.removing.all_taken_rows.Given as goal
 
 -- the rows so far and those of the elements that are left are all rows
 abbrev pub invariant-elements : goal.invariant-elements
