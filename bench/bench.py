@@ -18,8 +18,7 @@ It makes its own input in a temporary folder.
 - The class and id lines of a real list, where Debian's webext-ublock-origin-firefox is installed, else lines made in that shape,
   on a nested page: what one test costs.
 - 200 filters of each operator on a nested page: what one test costs, by operator.
-- Lists and pages of bad input: each run has to end with status 0. `:is()` and `:not()` with `:has()` in one another aren't among
-  them yet: their cost grows with the depth of the page to the power of how many `:has()` there are.
+- Lists and pages of bad input: each run has to end with status 0.
 - A script of changes: its time should grow as the number of its lines does, and its peak memory should not; pairs of an insert
   and a delete keep it flat.
 - 10,000 rules of public suffixes, and what finding the active filters of a page takes beside reading the lists.
@@ -376,6 +375,9 @@ def bad_input(program, folder):
     ran.append(measure(program, folder, "16 levels on a page 510 deep", report("list")))
     write(Path(folder, "list"), [f"##{'.a:has(' * 16}.b{')' * 16}\n", f"##.a:has(.a{' .a' * 14} .b)\n", f"##.b{' .a' * 26}\n"])
     ran.append(measure(program, folder, "  with a class beside each level", report("list")))
+    write(Path(folder, "list"), [f"##{'.a:has(:is(' * 8}.b{'))' * 8}\n", f"##{':not(:has(:is(' * 5}.b{')))' * 5}\n"])
+    write(Path(folder, "page"), ["<b class=a>" * 100])
+    ran.append(measure(program, folder, "`:has()` with others between, 100 deep", report("list")))
     write(Path(folder, "list"), [f"##b{'+b' * 32_700}:last-child\n"])
     write(Path(folder, "page"), ["<i>", *["<b></b>"] * 33_000, "</i>"])
     ran.append(measure(program, folder, "32,700 steps on 33,000 siblings", report("list")))
