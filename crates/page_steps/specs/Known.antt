@@ -1,7 +1,5 @@
 -- What is known of the hidden elements of a page.
-use Rattle.std.specs.Prelude.{ℕ, ◌≡◌, List, [], ◌∷◌, codes, length, map, refl}
-use Rattle.page_tree.specs.Forest.{Tree, element, empty, node}
-use Rattle.page_tree.specs.Standings.{elements, standing}
+use Rattle.std.specs.Prelude.{◌≡◌, length, map}
 use Rattle.cos_patterns.specs.Found.{pattern_found}
 use Rattle.engine_meaning.specs.Hidden.{pair_of}
 use Rattle.engine_meaning.specs.States.{State, hidden_of}
