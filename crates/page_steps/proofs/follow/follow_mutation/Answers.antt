@@ -37,8 +37,8 @@ returns-in-Refused-clause-taken g c =
 
 pub returns-in_ok-engine-in-Done-clause-same : goal.returns-in_ok-engine-in-Done-clause-same
 returns-in_ok-engine-in-Done-clause-same g c = λ same.
-    ap (hidden_of pattern_found) (c.in_ok-engine-in-Done.ensures.same (c.still_same.ensures.rounds same) ∙ c.in_ok-changed.ensures.engine)
-    ∙ c.in_ok-changed.ensures.same (c.still_same.ensures.changed same)
+    ap (hidden_of pattern_found) (c.in_ok-engine-in-Done.ensures.same (c.still_same-same.ensures.rounds same) ∙ c.in_ok-changed.ensures.engine)
+    ∙ c.in_ok-changed.ensures.same (c.still_same-same.ensures.changed same)
 
 pub returns-in-Refused-clause-same : goal.returns-in-Refused-clause-same
 returns-in-Refused-clause-same g c = λ same.

@@ -36,7 +36,7 @@ returns-in_err-known-clause-text g c =
     let followed = c.in_ok-followed.followed in
     rw (e.1, e.2) (same_error
     (step_alike c.args.brief c.args.line.number followed.answer (answer read c.args.page.engine.page) followed.engine followed.taken (after_line read c.args.page.engine)
-    c.in_ok-followed.ensures.answer c.in_ok-followed.ensures.engine c.in_ok-followed.ensures.taken) c.in_err-known.ensures)
+    c.in_ok-followed.ensures.answer c.in_ok-followed.ensures.engine c.in_ok-followed.ensures.taken) c.in_err-known.ensures.text)
 
 pub returns-clause-text : goal.returns-clause-text
 returns-clause-text g c =
@@ -44,7 +44,7 @@ returns-clause-text g c =
     let followed = c.in_ok-followed.followed in
     same_text (record { engine = followed.engine; known = c.in_ok-known.known })
     (step_alike c.args.brief c.args.line.number followed.answer (answer read c.args.page.engine.page) followed.engine followed.taken (after_line read c.args.page.engine)
-    c.in_ok-followed.ensures.answer c.in_ok-followed.ensures.engine c.in_ok-followed.ensures.taken) c.in_ok-known.ensures
+    c.in_ok-followed.ensures.answer c.in_ok-followed.ensures.engine c.in_ok-followed.ensures.taken) c.in_ok-known.ensures.text
 
 pub returns-in_err-followed-clause-checks : goal.returns-in_err-followed-clause-checks
 returns-in_err-followed-clause-checks g c = c.in_err-followed.ensures.checks

@@ -30,7 +30,7 @@ returns-in_err-known-clause-texts g c =
     rw (e.1, e.2) (error_before {T = Unit {0}} (lines_texts c.args.brief opened.state (numbered 1 lines) ++ end_text (length lines) ∷ [])
     (text_alone (same_error {U = Unit {0}}
     (step_alike c.args.brief 0 Opened Opened c.in_ok-engine.engine c.in_ok-engine.taken opened refl c.in_ok-engine.ensures.engine c.in_ok-engine.ensures.taken)
-    c.in_err-known.ensures)))
+    c.in_err-known.ensures.text)))
 
 pub write_lines-requires-clause-numbers : goal.write_lines-requires-clause-numbers
 write_lines-requires-clause-numbers g c =
@@ -45,7 +45,7 @@ returns-in_err-count-clause-texts g c =
     rw (e.1, e.2) (and_more
     (text_alone (same_text {U = Unit {0}} tt
     (step_alike c.args.brief 0 Opened Opened c.in_ok-engine.engine c.in_ok-engine.taken opened refl c.in_ok-engine.ensures.engine c.in_ok-engine.ensures.taken)
-    c.in_ok-known.ensures))
+    c.in_ok-known.ensures.text))
     (error_before (end_text (length lines) ∷ [])
     (subst (λ (x : State). ReportsAll {T = ℕ} s.tells s.written s.faults c.write_followed.new.out c.write_lines.new.out (lines_texts c.args.brief x (numbered 1 lines)) (Err c.in_err-count.field-0.0))
     c.in_ok-engine.ensures.engine c.in_err-count.ensures.texts)))
@@ -58,7 +58,7 @@ returns-clause-texts g c =
     and_more
     (text_alone (same_text {U = Unit {0}} tt
     (step_alike c.args.brief 0 Opened Opened c.in_ok-engine.engine c.in_ok-engine.taken opened refl c.in_ok-engine.ensures.engine c.in_ok-engine.ensures.taken)
-    c.in_ok-known.ensures))
+    c.in_ok-known.ensures.text))
     (and_more
     (subst (λ (x : State). ReportsAll s.tells s.written s.faults c.write_followed.new.out c.write_lines.new.out (lines_texts c.args.brief x (numbered 1 lines)) (Ok c.in_ok-count.count))
     c.in_ok-engine.ensures.engine c.in_ok-count.ensures.texts)
