@@ -1,6 +1,7 @@
 #!/usr/bin/env python3
 """Runs the built program over a table of words and files, and compares how each run ends: its status, what it prints on standard
-error, and what it prints on standard output. The last line counts what passed; the status is 1 where something failed.
+error, and what it prints on standard output. Then it measures the memory of a page whose parts come and go. The last line counts
+what passed; the status is 1 where something failed.
 
 usage: checks/program.py [PROGRAM]
 """
@@ -108,10 +109,30 @@ DONE = [
     (["drill", "--brief", "200"], "drill 200 hidden 173\n"),
 ]
 
+# Parts of so many nodes come and go, one after another; their slots are used again, so that a hundred times as many of them take no
+# more memory than their script does.
+PART = 100
+FEW, MANY = 50, 5_000
+FURTHER_KILOBYTES = 16_384
+
 EXAMPLE = [
     "apply", "--url", "https://www.harbour-times.example/today", "--page", "page.html", "--script", "script.txt",
     "--suffixes", "suffixes.txt", "list.txt",
 ]
+
+
+def coming_and_going(count):
+    """A script in which parts are put into the first element and taken out again."""
+    html = "<i>" + "<b></b>" * (PART - 1) + "</i>"
+    return "".join(f"insert 1 0 {html}\ndelete {2 + PART * number}\n" for number in range(count))
+
+
+def peak_kilobytes(words, folder):
+    """The most memory that a run takes, and its status."""
+    with open(os.devnull, "wb") as nothing, subprocess.Popen(words, cwd=folder, stdout=nothing, stderr=nothing) as ran:
+        _, status, usage = os.wait4(ran.pid, 0)
+        ran.returncode = os.waitstatus_to_exitcode(status)
+    return usage.ru_maxrss, ran.returncode
 
 
 def told(words):
@@ -144,6 +165,16 @@ def main():
         for words, _ in DONE:
             with open("/dev/full", "wb") as full:
                 compare(words, folder, (4, f"{UNWRITTEN}\n", ""), full)
+        peaks = []
+        for name, count in (("few-parts", FEW), ("many-parts", MANY)):
+            with open(f"{folder}/{name}", "w", encoding="utf-8") as file:
+                file.write(coming_and_going(count))
+            peaks.append(peak_kilobytes([program, *page("--page", "P", "--script", name, "--brief", "L")], folder))
+        if peaks[1][0] <= peaks[0][0] + FURTHER_KILOBYTES and peaks[0][1] == peaks[1][1] == 0:
+            passed += 1
+        else:
+            failed += 1
+            print(f"FAILED: the memory of parts that come and go, in kilobytes, and the statuses: {peaks}")
     with open(f"{TOP}/examples/output.txt", encoding="utf-8") as file:
         compare(EXAMPLE, f"{TOP}/examples", (0, "", file.read()))
     print(f"{passed} passed, {failed} failed")

@@ -1,4 +1,6 @@
 mod Places
+mod Acted
+mod Same
 mod Hiding
 mod Taking
 mod Names

@@ -112,17 +112,36 @@ module _ (s : State) (action : Action) (x : ℕ) where
   by_option None = bool.and-false (selects pattern_found s.page.tree s.page.path [] x)
   by_option (Some g) = bool.and_comm (selects pattern_found s.page.tree s.page.path g.selector x) (has_action action g)
 
-  module _ (rows : List (ℕ × List ℕ)) (exact : AreExact s rows) (there : is_in (all s.page.tree) x ≡ true) (rising : IsRising (row rows x)) where
-    members : (f : ℕ) → is_in (chosen s.filters action (row rows x)) f ≡ is_in (places_from 0 (λ g. acts_on pattern_found s.filters s.page.path s.page.tree action g x) s.filters) f
+  module _ (rows : List (ℕ × List ℕ)) (exact : AreExact s rows) (there : is_in (all s.page.tree) x ≡ true) where
+    pub members : (f : ℕ) → is_in (chosen s.filters action (row rows x)) f ≡ is_in (places_from 0 (λ g. acts_on pattern_found s.filters s.page.path s.page.tree action g x) s.filters) f
     members f =
         is_in-filter (acts_at s.filters action) (row rows x) f
         ∙ ap (λ b. b && acts_at s.filters action f) (exact f x ∙ ap (λ b. b && is_selected s f x) there)
         ∙ by_option (slice_get s.filters f)
         ∙ sym (place_at (λ g. acts_on pattern_found s.filters s.page.path s.page.tree action g x) s.filters f)
 
-    pub chosen_places : chosen s.filters action (row rows x) ≡ places_from 0 (λ g. acts_on pattern_found s.filters s.page.path s.page.tree action g x) s.filters
-    chosen_places =
+    pub chosen_places : IsRising (row rows x) → chosen s.filters action (row rows x) ≡ places_from 0 (λ g. acts_on pattern_found s.filters s.page.path s.page.tree action g x) s.filters
+    chosen_places rising =
         rising_same (chosen s.filters action (row rows x)) (places_from 0 (λ g. acts_on pattern_found s.filters s.page.path s.page.tree action g x) s.filters)
         (filtered (acts_at s.filters action) (row rows x) rising)
         (rising_places (λ g. acts_on pattern_found s.filters s.page.path s.page.tree action g x) 0 s.filters)
         members
+
+-- ---- the same by equal answers
+
+-- the filters that select an element in two pages are the same where the answers are
+module _ (s u : State) (action : Action) (x : ℕ) (same : s.filters ≡ u.filters) (alike : (f : ℕ) → is_selected s f x ≡ is_selected u f x) where
+  acts_alike : (f : ℕ) → is_in (places_from 0 (λ g. acts_on pattern_found s.filters s.page.path s.page.tree action g x) s.filters) f
+      ≡ is_in (places_from 0 (λ g. acts_on pattern_found u.filters u.page.path u.page.tree action g x) u.filters) f
+  acts_alike f =
+      place_at (λ g. acts_on pattern_found s.filters s.page.path s.page.tree action g x) s.filters f
+      ∙ sym (by_option s action x (slice_get s.filters f))
+      ∙ ap₂ (λ a b. a && b) (alike f) (ap (λ (l : List Filter). acts_at l action f) same)
+      ∙ by_option u action x (slice_get u.filters f)
+      ∙ sym (place_at (λ g. acts_on pattern_found u.filters u.page.path u.page.tree action g x) u.filters f)
+
+  pub places_alike : places_from 0 (λ g. acts_on pattern_found s.filters s.page.path s.page.tree action g x) s.filters
+      ≡ places_from 0 (λ g. acts_on pattern_found u.filters u.page.path u.page.tree action g x) u.filters
+  places_alike =
+      rising_same _ _ (rising_places (λ g. acts_on pattern_found s.filters s.page.path s.page.tree action g x) 0 s.filters)
+      (rising_places (λ g. acts_on pattern_found u.filters u.page.path u.page.tree action g x) 0 u.filters) acts_alike

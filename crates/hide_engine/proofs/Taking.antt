@@ -1,6 +1,7 @@
 -- The rows of a round, one element after another, and what is left behind it.
-use Rattle.std.proofs.Common.{◌≡◌, ℕ, ◌<◌, ◌+◌, ◌++◌, Bool, true, false, not, ◌&&◌, ◌||◌, ◌==◌, cond, List, [], ◌∷◌, map, filter, length, Option, Some, None, Result, Ok, Err, IsOk, OnOk, OnErr, MatchOption, refl, sym, ap, ◌∙◌, inl, inr, ◌⊎◌, arith, append_assoc, take, get_or}
-use Rattle.std.specs.List.{list_any}
+use Rattle.std.proofs.Common.{◌≡◌, ℕ, ◌<◌, ◌+◌, ◌++◌, Bool, true, false, not, ◌&&◌, ◌||◌, ◌==◌, cond, List, [], ◌∷◌, map, filter, length, Option, Some, None, Result, Ok, Err, IsOk, OnOk, OnErr, MatchOption, refl, sym, ap, ◌∙◌, inl, inr, ◌⊎◌, arith, append_assoc, nat_eq, take, get_or}
+use Rattle.std.specs.List.{list_any, IsDistinct}
+use Rattle.std.specs.Map.{keys_of}
 use Rattle.std.proofs.Math.Bool as bool
 use Rattle.std.proofs.lemmas.Bool.{cases_Bool, cases_eq, eqb-true, ne_eqb}
 use Rattle.std.proofs.lemmas.List.{map-append, take_more}
@@ -24,12 +25,13 @@ use Rattle.selector_tree.specs.declared.filter.Taken.{Taken}
 use Rattle.selector_meaning.specs.Hidden.{places_from, with_row, rows_of}
 use Rattle.selector_meaning.proofs.Rows.{with_row-append}
 use Rattle.engine_meaning.specs.Hidden.{acts_on}
-use Rattle.engine_meaning.specs.Rounds.{is_outermost, taken_row, removed, without_each}
+use Rattle.engine_meaning.specs.Filters.{is_remove}
+use Rattle.engine_meaning.specs.Rounds.{is_outermost, taken_row, taken_in, removed, removed_rows, without_each}
 use Rattle.engine_meaning.specs.States.{State}
 use Rattle.hide_engine.specs.Exact.{AreExact}
-use Rattle.hide_engine.specs.Chosen.{acts_at}
+use Rattle.hide_engine.specs.Chosen.{acts_at, acting_rows}
 use Rattle.hide_engine.specs.Removing.{taken_rows}
-use Rattle.hide_engine.proofs.Places.{chosen_places}
+use Rattle.hide_engine.proofs.Acted.{acted_length, no_member, no_place}
 
 taken_rows-append : (s : State) (a b : List (ℕ × List ℕ)) → taken_rows s (a ++ b) ≡ taken_rows s a ++ taken_rows s b
 taken_rows-append s a b =
@@ -49,54 +51,25 @@ taken_go_on s chooses rows more new x places left rest added e same h =
     ∙ ap (λ (ns : List ℕ). rows ++ taken_rows s (rows_of chooses s.filters (x ∷ ns))) (sym same)
     ∙ h
 
--- ---- whether an element is removed
+-- ---- nothing is removed
 
--- some number is there
-some_number : List ℕ → Bool
-some_number [] = false
-some_number (n ∷ ns) = true
+no_rows : (l : List (ℕ × List ℕ)) → length l ≡ 0 → l ≡ []
+no_rows [] e = refl
+no_rows (row ∷ l) e = absurd (omega (arith, e))
 
-any_chosen : (p : ℕ → Bool) (xs : List ℕ) → list_any p xs ≡ some_number (filter p xs)
-unfolding some_number
-any_chosen p [] = refl
-any_chosen p (x ∷ xs) = pick (p x) (any_chosen p xs)
-  where
-    pick : (b : Bool) → list_any p xs ≡ some_number (filter p xs) → (b || list_any p xs) ≡ some_number (cond b (x ∷ filter p xs) (filter p xs))
-    pick true h = refl
-    pick false h = h
+-- a round takes nothing where no row of the marks has a filter that removes
+pub none_taken : (s : State) (rows : List (ℕ × List ℕ)) → IsTree s.page.tree → AreExact s rows → IsDistinct nat_eq (keys_of rows) → length (acting_rows s.filters Remove rows) ≡ 0 →
+    taken_in pattern_found s.filters s.page.path s.page.tree 1 ≡ []
+none_taken s rows tree exact once none =
+    ap (taken_rows s) (no_rows (removed_rows pattern_found s.filters s.page.path s.page.tree) (sym (acted_length s Remove rows exact tree once) ∙ none))
 
--- an element has a row where it is asked and has places
-has_row : {F : Type 0} (chooses : F → ℕ → Bool) (items : List F) (xs : List ℕ) (x : ℕ) →
-    is_in (map (λ r. r.0) (rows_of chooses items xs)) x ≡ (is_in xs x && some_number (places_from 0 (λ item. chooses item x) items))
-unfolding some_number
-has_row chooses items [] x = refl
-has_row chooses items (y ∷ ys) x =
-    pick (cases_Bool (y == x)) (places_from 0 (λ item. chooses item y) items) refl (has_row chooses items ys x)
-  where
-    own : ℕ → Bool
-    own z = some_number (places_from 0 (λ item. chooses item z) items)
-
-    pick : ((y == x) ≡ true) ⊎ ((y == x) ≡ false) → (places : List ℕ) → places_from 0 (λ item. chooses item y) items ≡ places
-        → is_in (map (λ r. r.0) (rows_of chooses items ys)) x ≡ (is_in ys x && own x)
-        → is_in (map (λ r. r.0) (with_row y places (rows_of chooses items ys))) x ≡ (((y == x) || is_in ys x) && own x)
-    pick (inl same) [] e h =
-        let nothing : own x ≡ false = ap own (sym (eqb-true y x same)) ∙ ap some_number e in
-        h ∙ ap (λ b. is_in ys x && b) nothing ∙ bool.and-false (is_in ys x) ∙ sym (ap (λ b. ((y == x) || is_in ys x) && b) nothing ∙ bool.and-false ((y == x) || is_in ys x))
-    pick (inl same) (place ∷ places) e h =
-        let something : own x ≡ true = ap own (sym (eqb-true y x same)) ∙ ap some_number e in
-        ap (λ b. b || is_in (map (λ r. r.0) (rows_of chooses items ys)) x) same
-        ∙ sym (ap (λ b. (b || is_in ys x) && own x) same ∙ something)
-    pick (inr apart) [] e h = h ∙ sym (ap (λ b. (b || is_in ys x) && own x) apart)
-    pick (inr apart) (place ∷ places) e h =
-        ap (λ b. b || is_in (map (λ r. r.0) (rows_of chooses items ys)) x) apart ∙ h ∙ sym (ap (λ b. (b || is_in ys x) && own x) apart)
-
-pub is_removed : (s : State) (rows : List (ℕ × List ℕ)) (x : ℕ) → AreExact s rows → is_in (all s.page.tree) x ≡ true → IsRising (row rows x) →
-    is_in (removed pattern_found s.filters s.page.path s.page.tree) x ≡ list_any (acts_at s.filters Remove) (row rows x)
-is_removed s rows x exact there rising =
-    has_row (acts_on pattern_found s.filters s.page.path s.page.tree Remove) s.filters (all s.page.tree) x
-    ∙ ap (λ b. b && some_number (places_from 0 (λ item. acts_on pattern_found s.filters s.page.path s.page.tree Remove item x) s.filters)) there
-    ∙ ap some_number (sym (chosen_places s Remove x rows exact there rising))
-    ∙ sym (any_chosen (acts_at s.filters Remove) (row rows x))
+-- so it is where no filter removes
+pub none_removes : (filters : List Filter) (rows : List (ℕ × List ℕ)) → list_any is_remove filters ≡ false → length (acting_rows filters Remove rows) ≡ 0
+none_removes filters [] none = refl
+none_removes filters (entry ∷ rows) none =
+    ap (λ b. length (cond b (entry ∷ acting_rows filters Remove rows) (acting_rows filters Remove rows)))
+    (no_member (acts_at filters Remove) entry.1 (λ f. no_place is_remove filters f none))
+    ∙ none_removes filters rows none
 
 -- ---- taking out
 

@@ -142,5 +142,6 @@ fn take<L: Ledger, P: Ledger>(
 {
     let mut pending = Pending::new(alloc);
     take_out_all(alloc, page, filters, rows, marks, &mut pending)?;
-    ask_again(alloc, page, filters, &pending, marks, checks, parts)
+    ask_again(alloc, page, filters, &pending, marks, checks, parts)?;
+    Ok(())
 }

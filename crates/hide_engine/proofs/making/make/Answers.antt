@@ -6,6 +6,7 @@ use Rattle.page_tree.specs.Directions.{is_in}
 use Rattle.hide_engine.specs.Ready.{IsRight}
 use Rattle.hide_engine.proofs.Events.{unchanged, not_refused, is_made, is_refused}
 use Rattle.hide_engine.proofs.Mutations.{known_names, known_step, known_dirty, none_dirty}
+use Rattle.hide_engine.proofs.Same.{none_dropped}
 use Rattle.hide_engine.proofs.making.make.Goals as goal
 
 pub follow-requires-clause-named : goal.follow-requires-clause-named
@@ -57,3 +58,8 @@ returns-in_ok-follow-in-Done-clause-given c given h f x lt =
 pub returns-in_ok-follow-in-Done-clause-refused : goal.returns-in_ok-follow-in-Done-clause-refused
 returns-in_ok-follow-in-Done-clause-refused c refused =
     absurd (not_refused (change c.args.mutation c.args.page.now) c.in_ok-error.field-0 c.in_ok-error.ensures.outcome c.in-Done.is refused)
+
+pub returns-in_ok-follow-in-Done-clause-kept : goal.returns-in_ok-follow-in-Done-clause-kept
+returns-in_ok-follow-in-Done-clause-kept c keeps =
+    none_dropped c.args.mutation c.args.page.now.tree c.as_slice.result.now c.args.marks.now c.follow.new.marks keeps
+    (λ x. ap (λ l. is_in l x) c.as_slice.ensures.value ∙ c.in_ok-gone.ensures x) c.in_ok-follow-in-Done.ensures.marks

@@ -6,8 +6,8 @@ use Rattle.retest.specs.Asked.{carried, pends}
 use Rattle.retest.proofs.Visits.{front_within, one_more}
 use Rattle.retest.proofs.asking.ask_pending.Goals as goal
 
-pub returns-in_err-ask_at-clause-checks : goal.returns-in_err-ask_at-clause-checks
-returns-in_err-ask_at-clause-checks g c =
+pub returns-in_err-one-clause-checks : goal.returns-in_err-one-clause-checks
+returns-in_err-one-clause-checks g c =
     let asking = c.args.asking.now in
     let n = length asking.active.now in
     let elements = all asking.dom.now in
@@ -18,7 +18,7 @@ returns-in_err-ask_at-clause-checks g c =
     let there : is_in elements (get_or visits i 0) ≡ true = sym c.is_element.ensures ∙ c.if-is_element.true in
     let more = one_more (due_at n (carried asking) pend) elements visits i within there in
     let front = front_within n elements (carried asking) pend visits (i + 1) c.elements-x-items.ensures.once in
-    omega (arith, more, front, c.ask_at.ensures.checks, c.loop-x.invariant.checks)
+    omega (arith, more, front, c.in_err-one.ensures.checks, c.loop-x.invariant.checks)
 
 pub returns-clause-checks : goal.returns-clause-checks
 returns-clause-checks g c =
