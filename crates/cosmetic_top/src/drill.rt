@@ -167,7 +167,7 @@ fn counted<L: Ledger, P: Ledger>(
     ensures parts { parts.new ≤ parts.old + script_cost single_tests engine (drill_script number) }
 {
     let (behind, taken, steps) = followed(alloc, number, engine, checks, parts)?;
-    told(alloc, number, &behind, taken, steps)
+    Ok(told(number, &behind, taken, steps))
 }
 
 // The page behind the script, how many elements were taken, and how many lines the script has.
@@ -192,25 +192,17 @@ fn followed<L: Ledger, P: Ledger>(
 }
 
 // The counts of the page behind the script.
-fn told(
-    alloc: Global,
-    number: u16,
-    behind: &Engine,
-    taken: u64,
-    steps: u32,
-) -> Result<DrillCounts, AllocError>
+fn told(number: u16, behind: &Engine, taken: u64, steps: u32) -> DrillCounts
     requires steps { steps ≡ length (numbered 1 (lines_of (drill_script number))) }
-    ensures { IfOk result (λ counts.
-        counts ≡ counts_of number (record { state = behind.now; taken = taken })) }
+    ensures { result ≡ counts_of number (record { state = behind.now; taken = taken }) }
 {
-    let rows = behind.hidden(alloc)?;
-    Ok(DrillCounts {
+    DrillCounts {
         number,
         nodes: behind.dom().count(),
         steps,
-        hidden: rows.len(),
+        hidden: behind.hidden_count(),
         taken,
-    })
+    }
 }
 
 // How many lines a source has.

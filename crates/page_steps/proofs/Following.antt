@@ -53,6 +53,12 @@ pub refused : (changed : Result PageState Refusal) (s behind : State) (outcome :
 refused (Ok page) s behind outcome error said is at = absurd (let no : outcomes.Done ≡ outcomes.Refused error = sym said ∙ is in cc)
 refused (Err refusal) s behind outcome error said is at = ap resting at
 
+-- it leaves the page as it was
+pub refused_same : (changed : Result PageState Refusal) (s behind : State) (outcome : Outcome) (error : DomError) → outcome ≡ outcome_of changed → outcome ≡ outcomes.Refused error →
+    behind ≡ record s { page = result_unwrap_or changed s.page } → behind ≡ s
+refused_same (Ok page) s behind outcome error said is at = absurd (let no : outcomes.Done ≡ outcomes.Refused error = sym said ∙ is in cc)
+refused_same (Err refusal) s behind outcome error said is at = at
+
 -- ---- the same by equal parts
 
 -- a script that is followed

@@ -1,6 +1,7 @@
 mod Numbers
 mod Following
 mod Written
+mod Telling
 mod Lines
 pub mod Spending
 mod Patterns

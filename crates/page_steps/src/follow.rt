@@ -1,16 +1,17 @@
 // How the lines of a script change a page.
-ghost use Rattle.std.specs.Prelude.{◌≡◌, ◌+◌, ◌≤◌, ◌<◌, ◌^◌, [], IfOk, length};
+ghost use Rattle.std.specs.Prelude.{◌≡◌, ◌+◌, ◌≤◌, ◌<◌, ◌^◌, true, [], IfOk, length};
 ghost use Rattle.cos_source.specs.Lines.{lines_of, numbered};
 ghost use Rattle.mutation_script.specs.Inserted.{inserted};
 ghost use Rattle.mutation_script.specs.Lines.{script_line};
 ghost use Rattle.mutation_script.specs.Changes.{answer};
+ghost use Rattle.hide_engine.specs.Chosen.{HidesSame};
 ghost use Rattle.command_meaning.specs.Report.{after_line, drilled_by, settling};
 ghost use Rattle.remove_rounds.specs.Costs.{questions, single_tests};
 ghost use Rattle.page_steps.specs.Costs.{line_cost, script_cost};
 
 use cos_outside::Steps;
 use cos_source::Lines;
-use hide_engine::Engine;
+use hide_engine::{Applied, Engine};
 use mutation_script::{Answer, Mutation, Outcome, ScriptLine, read_line};
 use remove_rounds::settle;
 use selector_tree::TakenList;
@@ -26,6 +27,8 @@ pub struct Followed {
     pub engine: Engine,
     /// What its rounds of removal took.
     pub taken: TakenList,
+    /// Whether the hidden elements are known to be those before the line, each with the same filters.
+    pub same: bool,
 }
 
 /// Makes the change that a line asks for, and rounds of removal until one takes nothing. A line that is refused, blank or bad
@@ -45,6 +48,7 @@ pub fn follow_line<L: Ledger, P: Ledger>(
     ensures answer { IfOk result (λ followed. followed.answer ≡ answer (script_line line.now) engine.page) }
     ensures engine { IfOk result (λ followed. followed.engine ≡ (after_line (script_line line.now) engine).state) }
     ensures taken { IfOk result (λ followed. followed.taken ≡ (after_line (script_line line.now) engine).taken) }
+    ensures same { IfOk result (λ followed. followed.same ≡ true → HidesSame engine followed.engine) }
     ensures checks { checks.new ≤ checks.old + line_cost questions (script_line line.now) engine }
     ensures parts { parts.new ≤ parts.old + line_cost single_tests (script_line line.now) engine }
 {
@@ -67,31 +71,47 @@ fn follow_mutation<L: Ledger, P: Ledger>(
     ensures answer { IfOk result (λ followed. followed.answer ≡ answer (ScriptLine.Mutation mutation) engine.page) }
     ensures engine { IfOk result (λ followed. followed.engine ≡ (after_line (ScriptLine.Mutation mutation) engine).state) }
     ensures taken { IfOk result (λ followed. followed.taken ≡ (after_line (ScriptLine.Mutation mutation) engine).taken) }
+    ensures same { IfOk result (λ followed. followed.same ≡ true → HidesSame engine followed.engine) }
     ensures checks { checks.new ≤ checks.old + line_cost questions (ScriptLine.Mutation mutation) engine }
     ensures parts { parts.new ≤ parts.old + line_cost single_tests (ScriptLine.Mutation mutation) engine }
 {
-    let (changed, outcome) = engine.apply(alloc, mutation, checks, parts)?;
+    let Applied {
+        engine: changed,
+        outcome,
+        same,
+    } = engine.apply(alloc, mutation, checks, parts)?;
     match outcome {
         Outcome::Done => {
             let (engine, taken) = settle(alloc, changed, checks, parts)?;
+            let same = still_same(same, &taken);
             Ok(Followed {
                 answer: Answer::Done,
                 engine,
                 taken,
+                same,
             })
         }
         Outcome::Refused(error) => Ok(unchanged(alloc, changed, Answer::Refused(error))),
     }
 }
 
+// Whether what a change left the same is so behind its rounds too: only where they took nothing.
+fn still_same(same: bool, taken: &TakenList) -> bool
+    ensures changed { result ≡ true → same ≡ true }
+    ensures rounds { result ≡ true → taken.now ≡ [] }
+{
+    same && taken.len() == 0
+}
+
 // What a line came to that changes nothing.
 fn unchanged(alloc: Global, engine: Engine, given: Answer) -> Followed
-    ensures { result ≡ record { answer = given; engine = engine; taken = [] } }
+    ensures { result ≡ record { answer = given; engine = engine; taken = []; same = true } }
 {
     Followed {
         answer: given,
         engine,
         taken: TakenList::new(alloc),
+        same: true,
     }
 }
 

@@ -2,6 +2,7 @@
 #![tactic(auto)]
 
 mod follow;
+mod known;
 mod writing;
 
 pub use follow::{Followed, follow_line, follow_script};

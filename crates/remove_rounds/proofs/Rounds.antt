@@ -1,6 +1,6 @@
 -- One more round of several.
-use Rattle.std.proofs.Common.{◌≡◌, ℕ, suc, ◌+◌, ◌<◌, ◌≤◌, ◌++◌, true, List, [], ◌∷◌, map, length, refl, sym, ap, ◌∙◌, arith, append_assoc}
-use Rattle.std.proofs.lemmas.List.{append-nil}
+use Rattle.std.proofs.Common.{◌≡◌, ℕ, suc, ◌+◌, ◌<◌, ◌≤◌, ◌++◌, true, List, [], ◌∷◌, map, length, refl, sym, ap, ◌∙◌, arith, append_assoc, length-append}
+use Rattle.std.proofs.lemmas.List.{append-nil, length-map}
 use Rattle.page_tree.specs.Forest.{Tree}
 use Rattle.page_tree.specs.Trees.{IsTree}
 use Rattle.page_tree.specs.Standings.{all}
@@ -25,6 +25,12 @@ no_rows (row ∷ rows) none is = absurd (omega arith)
 pub some_rows : (rows : List Taken) {made : List Taken} (n : ℕ) → n ≡ length rows → (n ≡ 0 → ⊥) → rows ≡ made → made ≡ [] → ⊥
 some_rows rows n counted some is none = some (counted ∙ ap length (is ∙ none))
 
+-- what was taken grows by a round with rows
+pub some_taken : (number : ℕ) (so_far new rows : List Taken) (n : ℕ) → n ≡ length rows → (n ≡ 0 → ⊥) → new ≡ so_far ++ map (in_round number) rows → new ≡ [] → ⊥
+some_taken number so_far new rows n counted some added none =
+    let all_rows : length so_far + length rows ≡ 0 = sym (length-append so_far (map (in_round number) rows) ∙ ap (λ n. length so_far + n) (length-map rows (in_round number))) ∙ ap length (sym added ∙ none) in
+    some (omega arith)
+
 module _ (s : State) where
   -- the rows of a round under its number
   numbered : (number : ℕ) (rows : List (ℕ × List ℕ)) →
@@ -41,6 +47,10 @@ module _ (s : State) where
     ended =
         ap (λ (t : Tree). record s { page = record s.page { tree = t } })
         (round_same pattern_found s.filters s.page.path s.page.tree quiet ∙ sym (settled_here pattern_found s.filters s.page.path s.page.tree quiet))
+
+    -- it leaves the page as it is
+    pub rested : rounded pattern_found s ≡ s
+    rested = ap (λ (t : Tree). record s { page = record s.page { tree = t } }) (round_same pattern_found s.filters s.page.path s.page.tree quiet)
 
     pub ended_taken : (number : ℕ) (so_far more : List Taken)
         → so_far ++ taken_from pattern_found s.filters s.page.path number (length (all s.page.tree)) s.page.tree ≡ more → so_far ≡ more

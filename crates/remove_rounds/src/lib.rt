@@ -18,7 +18,8 @@ use std::alloc::{AllocError, Global};
 use std::sync::ledger::Ledger;
 
 /// Makes rounds until one takes nothing, and answers what each of them took, numbered from 1. Nothing that a filter removes
-/// is left then. Each round asks no more than its budget, also where memory runs out.
+/// is left then, and where nothing was taken the page is as it was. Each round asks no more than its budget, also where memory
+/// runs out.
 pub fn settle<L: Ledger, P: Ledger>(
     alloc: Global,
     engine: Engine,
@@ -29,6 +30,7 @@ pub fn settle<L: Ledger, P: Ledger>(
     ensures taken { IfOk result (λ done. done.1 ≡ taken_of pattern_found engine) }
     ensures quiet { IfOk result (λ done.
         removed pattern_found engine.filters engine.page.path done.0.page.tree ≡ []) }
+    ensures same { IfOk result (λ done. done.1 ≡ [] → done.0 ≡ engine) }
     ensures checks { checks.new ≤ checks.old + settling_cost questions engine }
     ensures parts { parts.new ≤ parts.old + settling_cost single_tests engine }
 {

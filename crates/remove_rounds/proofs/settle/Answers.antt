@@ -6,7 +6,7 @@ use Rattle.selector_tree.specs.declared.filter.Taken.{Taken}
 use Rattle.engine_meaning.specs.Rounds.{removed, taken_from}
 use Rattle.engine_meaning.specs.States.{State, settled_state, taken_of}
 use Rattle.engine_meaning.proofs.Settling.{settled-quiet}
-use Rattle.remove_rounds.proofs.Rounds.{few_elements, no_rows, some_rows, ended, ended_taken, fewer, settled_later, taken_later}
+use Rattle.remove_rounds.proofs.Rounds.{few_elements, no_rows, some_rows, some_taken, ended, rested, ended_taken, fewer, settled_later, taken_later}
 use Rattle.remove_rounds.specs.Costs.{questions, single_tests, settling_cost}
 use Rattle.remove_rounds.proofs.Spending.{goes_on, questions_within, round_questions, round_singles, singles_within}
 use Rattle.remove_rounds.proofs.settle.Goals as goal
@@ -16,6 +16,7 @@ rounds-init g c =
     record {
       settled = refl;
       taken = ap (λ (rows : List Taken). rows ++ taken_of pattern_found c.args.engine) c.new-taken.ensures;
+      rested = λ none. refl;
       few = omega (arith, few_elements c.args.engine.page.tree (subst IsTree c.dom.ensures c.is_tree.ensures));
       checks = omega arith;
       parts = omega arith;
@@ -40,6 +41,13 @@ returns-then-len-eq0-clause-quiet g c =
     (returns-then-len-eq0-clause-engine g c)
     ∙ settled-quiet pattern_found c.args.engine.filters c.args.engine.page.path c.args.engine.page.tree
 
+pub returns-then-len-eq0-clause-same : goal.returns-then-len-eq0-clause-same
+returns-then-len-eq0-clause-same g c = λ none.
+    c.in_ok-next.ensures.engine
+    ∙ rested c.rounds.engine (subst IsTree c.dom-in-rounds.ensures c.is_tree-in-rounds.ensures)
+    (no_rows c.in_ok-next.rows (sym c.len.ensures ∙ c.if-len-eq0.true) c.in_ok-next.ensures.taken)
+    ∙ c.rounds.invariant.rested none
+
 pub rounds-smaller : goal.rounds-smaller
 rounds-smaller g c =
     subst (λ (s : State). length (all s.page.tree) < length (all c.rounds.engine.page.tree)) (sym c.in_ok-next.ensures.engine)
@@ -56,6 +64,7 @@ rounds-preserved g c =
           c.in_ok-next.ensures.engine
           ∙ taken_later c.rounds.engine some c.rounds.number c.rounds.taken c.add_round.new.taken _ c.in_ok-next.rows c.in_ok-next.ensures.taken
           c.in_ok-add_round.ensures c.rounds.invariant.taken;
+      rested = λ none. absurd (some_taken c.rounds.number c.rounds.taken c.add_round.new.taken c.in_ok-next.rows c.len.result c.len.ensures c.if-len-eq0.false c.in_ok-add_round.ensures none);
       few = omega (arith, less, c.rounds.invariant.few);
       checks = omega (arith, goes_on questions c.rounds.engine c.in_ok-next.next c.in_ok-next.ensures.engine some, round_questions c.rounds.engine, c.in_ok-next.ensures.checks, c.rounds.invariant.checks);
       parts = omega (arith, goes_on single_tests c.rounds.engine c.in_ok-next.next c.in_ok-next.ensures.engine some, round_singles c.rounds.engine, c.in_ok-next.ensures.parts, c.rounds.invariant.parts);

@@ -1,11 +1,9 @@
-use Rattle.std.proofs.Common.{◌≡◌, ◌∙◌, ap}
-use Rattle.hide_report.specs.declared.counts.DrillCounts.{DrillCounts}
+use Rattle.std.proofs.Common.{◌∙◌, ap}
 use Rattle.cosmetic_top.specs.Reports.{counts_of}
-use Rattle.cosmetic_top.proofs.Parts.{if_ok_then}
 use Rattle.cosmetic_top.proofs.drill.counted.Goals as goal
 
 pub returns-clause-counts : goal.returns-clause-counts
-returns-clause-counts g c = if_ok_then c.told.result (λ (counts : DrillCounts) e. e ∙ ap (counts_of c.args.number) c.in_ok-behind.ensures.end) c.told.ensures
+returns-clause-counts g c = c.told.ensures ∙ ap (counts_of c.args.number) c.in_ok-behind.ensures.end
 
 pub returns-in_err-behind-clause-checks : goal.returns-in_err-behind-clause-checks
 returns-in_err-behind-clause-checks g c = c.in_err-behind.ensures.checks

@@ -1,13 +1,11 @@
-use Rattle.std.proofs.Common.{◌≡◌, ◌∙◌, ap, length, map, sym}
-use Rattle.std.proofs.lemmas.List.{length-map}
+use Rattle.std.proofs.Common.{◌∙◌, ap}
 use Rattle.page_tree.specs.Forest.{Tree, size}
-use Rattle.engine_meaning.specs.Hidden.{pair_of}
 use Rattle.cosmetic_top.proofs.Drilled.{counts_are}
 use Rattle.cosmetic_top.proofs.drill.told.Goals as goal
 
 pub returns : goal.returns
 returns c =
-    counts_are c.args.number c.count.result c.args.steps c.len.result c.args.taken c.args.behind.now
+    counts_are c.args.number c.count.result c.args.steps c.hidden_count.result c.args.taken c.args.behind.now
     (c.count.ensures ∙ ap (λ (t : Tree). size t.nodes) c.dom.ensures)
     c.requires.steps
-    (c.len.ensures ∙ sym (length-map c.in_ok-rows.rows pair_of) ∙ ap length c.in_ok-rows.ensures)
+    c.hidden_count.ensures

@@ -1,8 +1,10 @@
 use Rattle.std.proofs.Common.{◌≡◌, ◌≤◌, ◌+◌, IfOk, [], ap, length, arith, subst, sym, ◌∙◌}
+use Rattle.cos_patterns.specs.Found.{pattern_found}
 use Rattle.mutation_script.specs.declared.mutation.ScriptLine.{ScriptLine}
 use Rattle.mutation_script.specs.Changes.{answer}
 use Rattle.mutation_script.specs.Inserted.{inserted_by}
 use Rattle.mutation_script.proofs.Growth.{inserted_within}
+use Rattle.engine_meaning.specs.States.{hidden_of}
 use Rattle.remove_rounds.specs.Costs.{questions, single_tests}
 use Rattle.command_meaning.specs.Report.{after_line}
 use Rattle.page_steps.specs.declared.follow.Followed.{Followed}
@@ -55,3 +57,10 @@ pub returns-in-Blank-clause-taken : goal.returns-in-Blank-clause-taken
 returns-in-Blank-clause-taken g c =
     subst (λ (line : ScriptLine). c.unchanged.result.taken ≡ (after_line line c.args.engine).taken) (sym (sym c.in_ok-mutation.ensures ∙ c.in-Blank.is))
     (ap (λ (followed : Followed). followed.taken) c.unchanged.ensures)
+
+pub returns-in-Blank-clause-same : goal.returns-in-Blank-clause-same
+returns-in-Blank-clause-same g c = λ same. ap (λ (followed : Followed). hidden_of pattern_found followed.engine) c.unchanged.ensures
+
+-- a bad line
+pub returns-in-Bad-clause-same : goal.returns-in-Bad-clause-same
+returns-in-Bad-clause-same g c = λ same. ap (λ (followed : Followed). hidden_of pattern_found followed.engine) c.unchanged-in-Bad.ensures

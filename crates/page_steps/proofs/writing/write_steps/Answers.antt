@@ -22,15 +22,15 @@ returns-in_err-engine-clause-texts g c =
     rw (e.1, e.2) (no_memory c.args.out.now (text_of_step c.args.brief 0 Opened opened)
     (lines_texts c.args.brief opened.state (numbered 1 lines) ++ end_text (length lines) ∷ []) (λ same. cc))
 
-pub returns-in_err-write_followed-clause-texts : goal.returns-in_err-write_followed-clause-texts
-returns-in_err-write_followed-clause-texts g c =
-    let e = err_from_is_err_and c.from_residual-in_err-write_followed.result c.from_residual-in_err-write_followed.ensures.1 in
+pub returns-in_err-known-clause-texts : goal.returns-in_err-known-clause-texts
+returns-in_err-known-clause-texts g c =
+    let e = err_from_is_err_and c.from_residual-in_err-known.result c.from_residual-in_err-known.ensures.1 in
     let opened = settling c.args.engine in
     let lines = lines_of c.args.script.now in
     rw (e.1, e.2) (error_before {T = Unit {0}} (lines_texts c.args.brief opened.state (numbered 1 lines) ++ end_text (length lines) ∷ [])
     (text_alone (same_error {U = Unit {0}}
     (step_alike c.args.brief 0 Opened Opened c.in_ok-engine.engine c.in_ok-engine.taken opened refl c.in_ok-engine.ensures.engine c.in_ok-engine.ensures.taken)
-    c.in_err-write_followed.ensures)))
+    c.in_err-known.ensures.text)))
 
 pub write_lines-requires-clause-numbers : goal.write_lines-requires-clause-numbers
 write_lines-requires-clause-numbers g c =
@@ -45,7 +45,7 @@ returns-in_err-count-clause-texts g c =
     rw (e.1, e.2) (and_more
     (text_alone (same_text {U = Unit {0}} tt
     (step_alike c.args.brief 0 Opened Opened c.in_ok-engine.engine c.in_ok-engine.taken opened refl c.in_ok-engine.ensures.engine c.in_ok-engine.ensures.taken)
-    c.in_ok-write_followed.ensures))
+    c.in_ok-known.ensures.text))
     (error_before (end_text (length lines) ∷ [])
     (subst (λ (x : State). ReportsAll {T = ℕ} s.tells s.written s.faults c.write_followed.new.out c.write_lines.new.out (lines_texts c.args.brief x (numbered 1 lines)) (Err c.in_err-count.field-0.0))
     c.in_ok-engine.ensures.engine c.in_err-count.ensures.texts)))
@@ -58,7 +58,7 @@ returns-clause-texts g c =
     and_more
     (text_alone (same_text {U = Unit {0}} tt
     (step_alike c.args.brief 0 Opened Opened c.in_ok-engine.engine c.in_ok-engine.taken opened refl c.in_ok-engine.ensures.engine c.in_ok-engine.ensures.taken)
-    c.in_ok-write_followed.ensures))
+    c.in_ok-known.ensures.text))
     (and_more
     (subst (λ (x : State). ReportsAll s.tells s.written s.faults c.write_followed.new.out c.write_lines.new.out (lines_texts c.args.brief x (numbered 1 lines)) (Ok c.in_ok-count.count))
     c.in_ok-engine.ensures.engine c.in_ok-count.ensures.texts)
@@ -69,8 +69,8 @@ returns-clause-texts g c =
 pub returns-in_err-engine-clause-checks : goal.returns-in_err-engine-clause-checks
 returns-in_err-engine-clause-checks g c = omega (arith, opening_within questions c.args.engine c.args.script.now, c.in_err-engine.ensures.checks)
 
-pub returns-in_err-write_followed-clause-checks : goal.returns-in_err-write_followed-clause-checks
-returns-in_err-write_followed-clause-checks g c = omega (arith, opening_within questions c.args.engine c.args.script.now, c.in_ok-engine.ensures.checks)
+pub returns-in_err-known-clause-checks : goal.returns-in_err-known-clause-checks
+returns-in_err-known-clause-checks g c = omega (arith, opening_within questions c.args.engine c.args.script.now, c.in_ok-engine.ensures.checks)
 
 pub returns-in_err-count-clause-checks : goal.returns-in_err-count-clause-checks
 returns-in_err-count-clause-checks g c =
@@ -87,8 +87,8 @@ returns-clause-checks g c =
 pub returns-in_err-engine-clause-parts : goal.returns-in_err-engine-clause-parts
 returns-in_err-engine-clause-parts g c = omega (arith, opening_within single_tests c.args.engine c.args.script.now, c.in_err-engine.ensures.parts)
 
-pub returns-in_err-write_followed-clause-parts : goal.returns-in_err-write_followed-clause-parts
-returns-in_err-write_followed-clause-parts g c = omega (arith, opening_within single_tests c.args.engine c.args.script.now, c.in_ok-engine.ensures.parts)
+pub returns-in_err-known-clause-parts : goal.returns-in_err-known-clause-parts
+returns-in_err-known-clause-parts g c = omega (arith, opening_within single_tests c.args.engine c.args.script.now, c.in_ok-engine.ensures.parts)
 
 pub returns-in_err-count-clause-parts : goal.returns-in_err-count-clause-parts
 returns-in_err-count-clause-parts g c =
