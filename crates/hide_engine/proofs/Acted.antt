@@ -1,13 +1,12 @@
 -- Which elements the filters of an action select, and how many, by exact marks.
 use Rattle.std.proofs.Common.{◌≡◌, ℕ, zero, suc, ◌<◌, ◌+◌, Bool, true, false, ◌&&◌, ◌||◌, ◌==◌, cond, List, [], ◌∷◌, map, filter, length, nat_eq, take, Option, Some, None, refl, sym, ap, ◌∙◌, inl, inr, ◌⊎◌, arith}
-use Rattle.std.specs.Prelude.{unwrap_or, is_some, slice_get}
+use Rattle.std.specs.Prelude.{unwrap_or, is_some}
 use Rattle.std.specs.List.{list_any, IsDistinct, AllByRecursion}
-use Rattle.std.specs.Option.{option_filter, option_map_or}
 use Rattle.std.specs.Map.{keys_of, lookup}
 use Rattle.std.proofs.Math.Bool as bool
 use Rattle.std.proofs.lemmas.Bool.{cases_Bool, eq-eqb, eqb-true, false≢true}
 use Rattle.std.proofs.lemmas.Cmp.{nat_eq_equiv}
-use Rattle.std.proofs.lemmas.Map.Entries.{length-keys_of, lookup-filter-values}
+use Rattle.std.proofs.lemmas.Map.Entries.{length-keys_of, lookup-filter-values, option_filter}
 use Rattle.std.proofs.lemmas.Map.Made.{is_some-lookup, IsDistinct-keys_filter, length-from_same_keys}
 use Rattle.page_tree.specs.Standings.{all}
 use Rattle.page_tree.specs.Directions.{is_in}
@@ -180,22 +179,3 @@ one_row filters action (entry ∷ rows) (suc i) lt = pick (list_any (acts_at fil
         ≡ length (cond b (entry ∷ acting_rows filters action (take i rows)) (acting_rows filters action (take i rows))) + n
     pick true h = omega (arith, h)
     pick false h = h
-
--- ---- no filter has the action
-
-no_place : (p : Filter → Bool) (filters : List Filter) (f : ℕ) → list_any p filters ≡ false → option_map_or p (slice_get filters f) false ≡ false
-no_place p [] f h = refl
-no_place p (g ∷ gs) zero h = pick (p g) h
-  where
-    pick : (b : Bool) → (b || list_any p gs) ≡ false → b ≡ false
-    pick true e = e
-    pick false e = refl
-no_place p (g ∷ gs) (suc f) h = no_place p gs f (pick (p g) h)
-  where
-    pick : (b : Bool) → (b || list_any p gs) ≡ false → list_any p gs ≡ false
-    pick true e = absurd (false≢true (sym e))
-    pick false e = e
-
-no_member : (p : ℕ → Bool) (xs : List ℕ) → ((f : ℕ) → p f ≡ false) → list_any p xs ≡ false
-no_member p [] h = refl
-no_member p (x ∷ xs) h = ap (λ b. b || list_any p xs) (h x) ∙ no_member p xs h

@@ -62,8 +62,8 @@ elements_kept page (SetAttr n name value) tree after made keeps =
     by_attr page.tree (changed (SetAttr n name value) page).tree tree after n (str_to_ascii_lowercase name) page.path (becomes page tree (SetAttr n name value) made).1
 elements_kept page (DropAttr n name) tree after made keeps =
     by_attr page.tree (changed (DropAttr n name) page).tree tree after n (str_to_ascii_lowercase name) page.path (becomes page tree (DropAttr n name) made).1
-elements_kept page (SetText n text) tree after made keeps =
-    by_text page.tree (changed (SetText n text) page).tree tree after n page.path (becomes page tree (SetText n text) made).1
+elements_kept page (SetText n written) tree after made keeps =
+    by_text page.tree (changed (SetText n written) page).tree tree after n page.path (becomes page tree (SetText n written) made).1
 elements_kept page (Insert parent place html) tree after made keeps = absurd (false≢true keeps)
 elements_kept page (Delete n) tree after made keeps = absurd (false≢true keeps)
 elements_kept page (Relink n parent place) tree after made keeps = absurd (false≢true keeps)
@@ -73,7 +73,7 @@ elements_kept page (Path path) tree after made keeps = refl
 pub none_goes : (mutation : Mutation) (t : Tree) (x : ℕ) → keeps_elements mutation ≡ true → goes_by mutation t x ≡ false
 none_goes (SetAttr n name value) t x keeps = refl
 none_goes (DropAttr n name) t x keeps = refl
-none_goes (SetText n text) t x keeps = refl
+none_goes (SetText n written) t x keeps = refl
 none_goes (Insert parent place html) t x keeps = refl
 none_goes (Delete n) t x keeps = absurd (false≢true keeps)
 none_goes (Relink n parent place) t x keeps = refl

@@ -1,5 +1,5 @@
 -- The rows of a round, one element after another, and what is left behind it.
-use Rattle.std.proofs.Common.{◌≡◌, ℕ, ◌<◌, ◌+◌, ◌++◌, Bool, true, false, not, ◌&&◌, ◌||◌, ◌==◌, cond, List, [], ◌∷◌, map, filter, length, Option, Some, None, Result, Ok, Err, IsOk, OnOk, OnErr, MatchOption, refl, sym, ap, ◌∙◌, inl, inr, ◌⊎◌, arith, append_assoc, nat_eq, take, get_or}
+use Rattle.std.proofs.Common.{◌≡◌, ℕ, suc, ◌<◌, ◌+◌, ◌++◌, Bool, true, false, not, ◌&&◌, ◌||◌, ◌==◌, cond, List, [], ◌∷◌, map, filter, length, Option, Some, None, Result, Ok, Err, IsOk, OnOk, OnErr, MatchOption, refl, sym, ap, ◌∙◌, inl, inr, ◌⊎◌, arith, append_assoc, nat_eq, take, get_or}
 use Rattle.std.specs.List.{list_any, IsDistinct}
 use Rattle.std.specs.Map.{keys_of}
 use Rattle.std.proofs.Math.Bool as bool
@@ -22,6 +22,7 @@ use Rattle.kept_marks.specs.Rising.{IsRising}
 use Rattle.selector_tree.specs.declared.filter.Action.TheVariants.{Remove}
 use Rattle.selector_tree.specs.declared.filter.Filter.{Filter}
 use Rattle.selector_tree.specs.declared.filter.Taken.{Taken}
+use Rattle.selector_meaning.specs.Meaning.{selects}
 use Rattle.selector_meaning.specs.Hidden.{places_from, with_row, rows_of}
 use Rattle.selector_meaning.proofs.Rows.{with_row-append}
 use Rattle.engine_meaning.specs.Hidden.{acts_on}
@@ -31,7 +32,7 @@ use Rattle.engine_meaning.specs.States.{State}
 use Rattle.hide_engine.specs.Exact.{AreExact}
 use Rattle.hide_engine.specs.Chosen.{acts_at, acting_rows}
 use Rattle.hide_engine.specs.Removing.{taken_rows}
-use Rattle.hide_engine.proofs.Acted.{acted_length, no_member, no_place}
+use Rattle.hide_engine.proofs.Acted.{acted_length}
 
 taken_rows-append : (s : State) (a b : List (ℕ × List ℕ)) → taken_rows s (a ++ b) ≡ taken_rows s a ++ taken_rows s b
 taken_rows-append s a b =
@@ -64,12 +65,26 @@ none_taken s rows tree exact once none =
     ap (taken_rows s) (no_rows (removed_rows pattern_found s.filters s.page.path s.page.tree) (sym (acted_length s Remove rows exact tree once) ∙ none))
 
 -- so it is where no filter removes
-pub none_removes : (filters : List Filter) (rows : List (ℕ × List ℕ)) → list_any is_remove filters ≡ false → length (acting_rows filters Remove rows) ≡ 0
-none_removes filters [] none = refl
-none_removes filters (entry ∷ rows) none =
-    ap (λ b. length (cond b (entry ∷ acting_rows filters Remove rows) (acting_rows filters Remove rows)))
-    (no_member (acts_at filters Remove) entry.1 (λ f. no_place is_remove filters f none))
-    ∙ none_removes filters rows none
+module _ (s : State) where
+  no_places : (n : ℕ) (filters : List Filter) (x : ℕ) → list_any is_remove filters ≡ false → places_from n (λ g. acts_on pattern_found s.filters s.page.path s.page.tree Remove g x) filters ≡ []
+  no_places n [] x none = refl
+  no_places n (g ∷ gs) x none = pick (is_remove g) (selects pattern_found s.page.tree s.page.path g.selector x) none (no_places (suc n) gs x)
+    where
+      more : List ℕ
+      more = places_from (suc n) (λ g. acts_on pattern_found s.filters s.page.path s.page.tree Remove g x) gs
+
+      pick : (b c : Bool) → (b || list_any is_remove gs) ≡ false → (list_any is_remove gs ≡ false → more ≡ []) → cond (b && c) (n ∷ more) more ≡ []
+      pick true c none rest = absurd (let no : true ≡ false = none in cc)
+      pick false c none rest = rest none
+
+  no_rows_of : list_any is_remove s.filters ≡ false → (xs : List ℕ) → rows_of (acts_on pattern_found s.filters s.page.path s.page.tree Remove) s.filters xs ≡ []
+  no_rows_of none [] = refl
+  no_rows_of none (x ∷ xs) =
+      ap (λ places. with_row x places (rows_of (acts_on pattern_found s.filters s.page.path s.page.tree Remove) s.filters xs)) (no_places 0 s.filters x none)
+      ∙ no_rows_of none xs
+
+  pub none_removes : list_any is_remove s.filters ≡ false → taken_in pattern_found s.filters s.page.path s.page.tree 1 ≡ []
+  none_removes none = ap (taken_rows s) (no_rows_of none (all s.page.tree))
 
 -- ---- taking out
 

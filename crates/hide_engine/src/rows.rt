@@ -1,6 +1,7 @@
 // The rows of hidden elements, and how many there are, by the marks alone.
-ghost use Rattle.std.specs.Prelude.{◌≡◌, [], ◌++◌, map, length, IfOk, OnOk, OnErr};
-ghost use Rattle.std.specs.List.{list_any};
+ghost use Rattle.std.specs.Prelude.{◌≡◌, [], ◌++◌, map, length, nat_eq, IfOk, OnOk, OnErr};
+ghost use Rattle.std.specs.List.{list_any, IsDistinct};
+ghost use Rattle.std.specs.Map.{keys_of};
 ghost use Rattle.cos_patterns.specs.Found.{pattern_found};
 ghost use Rattle.engine_meaning.specs.Filters.{is_action};
 ghost use Rattle.engine_meaning.specs.Hidden.{pair_of, hidden};
@@ -70,7 +71,8 @@ pub(crate) fn chosen(
 
 /// How many rows of the marks have a filter of this action.
 pub(crate) fn acting_rows(active: &Active, marks: &Marks, action: Action) -> usize
-    ensures { result ≡ length (acting_rows active.now action marks.now) }
+    ensures count { result ≡ length (acting_rows active.now action marks.now) }
+    ensures once { IsDistinct nat_eq (keys_of marks.now) }
 {
     let mut count = 0;
     for place in 0..marks.len() {

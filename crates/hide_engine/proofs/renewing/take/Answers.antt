@@ -23,6 +23,16 @@ returns-clause-checks g c =
     (c.in_ok-take_out_all.ensures.given (λ f x. false) (λ f x lt. c.new-pending.ensures (group_in filters.groups.numbers f) x)))
     c.ask_again.ensures.checks
 
+pub returns-in_err-ask_again-clause-checks : goal.returns-in_err-ask_again-clause-checks
+returns-in_err-ask_again-clause-checks g c =
+    let page = c.args.page.now in
+    let filters = c.args.filters.now in
+    let nodes = map (λ row. row.node) c.args.rows.now in
+    subst (λ k. c.ask_again.new.checks ≤ c.args.checks.now + k)
+    (event_asks c.take_out_all.new.page (record page { tree = without_each page.tree nodes }) filters c.take_out_all.new.pending (dirtied_without nodes (state_of page filters)) c.in_ok-take_out_all.ensures.page
+    (c.in_ok-take_out_all.ensures.given (λ f x. false) (λ f x lt. c.new-pending.ensures (group_in filters.groups.numbers f) x)))
+    c.ask_again.ensures.checks
+
 pub returns-clause-parts : goal.returns-clause-parts
 returns-clause-parts g c =
     subst (λ (p : PageState). IsPriced (price c.args.filters.now.active p.tree) c.args.checks.now c.ask_again.new.checks c.args.parts.now c.ask_again.new.parts)

@@ -1,4 +1,4 @@
-use Rattle.std.proofs.Common.{◌≡◌, ◌≤◌, ◌×◌, take, length}
+use Rattle.std.proofs.Common.{◌≡◌, ◌≤◌, take, length}
 use Rattle.hide_engine.specs.Chosen.{acting_rows}
 use Rattle.hide_engine.proofs.rows.acting_rows.Given as goal
 

@@ -1,8 +1,11 @@
-use Rattle.std.proofs.Common.{◌≤◌, ◌+◌, IsErr, sym, subst}
+use Rattle.std.proofs.Common.{◌≤◌, ◌+◌, IsErr, ap, sym, subst, ◌∙◌}
+use Rattle.cos_patterns.specs.Found.{pattern_found}
+use Rattle.mutation_script.specs.declared.page.PageState.{PageState}
 use Rattle.mutation_script.specs.Changes.{change}
-use Rattle.engine_meaning.specs.States.{State, mutated}
+use Rattle.engine_meaning.specs.States.{State, hidden_of, mutated}
 use Rattle.hide_engine.specs.Budgets.{event_budget, event_tests}
 use Rattle.hide_engine.specs.Changes.{change_of, IsUnseen}
+use Rattle.hide_engine.specs.Ready.{state_of}
 use Rattle.hide_engine.proofs.Unseen.{unasked}
 use Rattle.hide_engine.proofs.engine.Engine.apply.Goals as goal
 
@@ -34,3 +37,10 @@ returns-clause-parts g c =
 pub returns-in_err-outcome-clause-parts : goal.returns-in_err-outcome-clause-parts
 returns-in_err-outcome-clause-parts g c =
     subst (λ (s : State). c.mutate.new.parts ≤ c.args.parts.now + event_tests c.args.mutation s) c.self.view_is c.mutate.ensures.parts
+
+pub returns-clause-same : goal.returns-clause-same
+returns-clause-same g c same =
+    ap (hidden_of pattern_found)
+    (sym (ap (λ (p : PageState). state_of p c.self.inside.filters) c.in_ok-outcome.ensures.page ∙ ap (mutated c.args.mutation) c.self.view_is))
+    ∙ c.in_ok-outcome.ensures.same same
+    ∙ ap (hidden_of pattern_found) c.self.view_is
