@@ -113,7 +113,7 @@ DONE = [
 # more memory than their script does.
 PART = 100
 FEW, MANY = 50, 5_000
-FURTHER_KILOBYTES = 16_384
+FURTHER_KILOBYTES = 8_192
 
 EXAMPLE = [
     "apply", "--url", "https://www.harbour-times.example/today", "--page", "page.html", "--script", "script.txt",
@@ -124,7 +124,7 @@ EXAMPLE = [
 def coming_and_going(count):
     """A script in which parts are put into the first element and taken out again."""
     html = "<i>" + "<b></b>" * (PART - 1) + "</i>"
-    return "".join(f"insert 1 0 {html}\ndelete {2 + PART * number}\n" for number in range(count))
+    return "".join(f"insert 1 0 {html}\ndelete {3 + PART * number}\n" for number in range(count))
 
 
 def peak_kilobytes(words, folder):
