@@ -1,9 +1,8 @@
 -- The rows of a round, one element after another, and what is left behind it.
-use Rattle.std.proofs.Common.{◌≡◌, ℕ, suc, ◌<◌, ◌+◌, ◌++◌, Bool, true, false, not, ◌&&◌, ◌||◌, ◌==◌, cond, List, [], ◌∷◌, map, filter, length, Option, Some, None, Result, Ok, Err, IsOk, OnOk, OnErr, MatchOption, refl, sym, ap, ◌∙◌, inl, inr, ◌⊎◌, arith, append_assoc, nat_eq, take, get_or}
+use Rattle.std.proofs.Common.{◌≡◌, ℕ, suc, ◌<◌, ◌+◌, ◌++◌, Bool, true, false, not, ◌&&◌, ◌||◌, cond, List, [], ◌∷◌, map, filter, length, Option, Some, None, Result, Ok, Err, IsOk, OnOk, OnErr, MatchOption, refl, sym, ap, ◌∙◌, inl, inr, arith, append_assoc, nat_eq, take, get_or}
 use Rattle.std.specs.List.{list_any, IsDistinct}
 use Rattle.std.specs.Map.{keys_of}
-use Rattle.std.proofs.Math.Bool as bool
-use Rattle.std.proofs.lemmas.Bool.{cases_Bool, cases_eq, eqb-true, ne_eqb}
+use Rattle.std.proofs.lemmas.Bool.{cases_eq, ne_eqb}
 use Rattle.std.proofs.lemmas.List.{map-append, take_more}
 use Rattle.std.proofs.lemmas.List.Elements.{filter-append}
 use Rattle.page_tree.specs.Forest.{Forest, empty, or_else, Tree, count}
@@ -18,7 +17,6 @@ use Rattle.dom_arena.specs.declared.refusals.DomError.{DomError}
 use Rattle.dom_arena.specs.Refusals.{error_of}
 use Rattle.cos_patterns.specs.Found.{pattern_found}
 use Rattle.kept_marks.specs.Kept.{row}
-use Rattle.kept_marks.specs.Rising.{IsRising}
 use Rattle.selector_tree.specs.declared.filter.Action.TheVariants.{Remove}
 use Rattle.selector_tree.specs.declared.filter.Filter.{Filter}
 use Rattle.selector_tree.specs.declared.filter.Taken.{Taken}
@@ -30,7 +28,7 @@ use Rattle.engine_meaning.specs.Filters.{is_remove}
 use Rattle.engine_meaning.specs.Rounds.{is_outermost, taken_row, taken_in, removed, removed_rows, without_each}
 use Rattle.engine_meaning.specs.States.{State}
 use Rattle.hide_engine.specs.Exact.{AreExact}
-use Rattle.hide_engine.specs.Chosen.{acts_at, acting_rows}
+use Rattle.hide_engine.specs.Chosen.{acting_rows}
 use Rattle.hide_engine.specs.Removing.{taken_rows}
 use Rattle.hide_engine.proofs.Acted.{acted_length}
 

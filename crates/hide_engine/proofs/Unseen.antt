@@ -1,7 +1,7 @@
 -- A change that nothing observes, and that brings and moves nothing, makes nothing dirty, and nothing is asked.
-use Rattle.std.proofs.Common.{◌≡◌, ◌∙◌, ◌≤◌, ◌+◌, ◌*◌, ℕ, Bool, true, false, ◌&&◌, ◌||◌, List, [], ◌∷◌, length, map, cond, refl, sym, ap, ap₂, arith, zero-mul}
+use Rattle.std.proofs.Common.{◌≡◌, ◌∙◌, ◌≤◌, ◌+◌, ◌*◌, ℕ, Bool, true, false, ◌&&◌, ◌||◌, List, [], ◌∷◌, length, map, cond, refl, ap, ap₂, arith, zero-mul}
 use Rattle.std.specs.Prelude.{is_ok, IsErr, Result, Ok, Err}
-use Rattle.std.specs.List.{count_by, list_any, range_with_len, sum_by}
+use Rattle.std.specs.List.{count_by, list_any, range_with_len}
 use Rattle.std.proofs.Math.Bool as bool
 use Rattle.std.proofs.lemmas.List.Sums.{sum_by-cons}
 use Rattle.page_tree.specs.Standings.{all}
@@ -13,9 +13,8 @@ use Rattle.mutation_script.specs.declared.page.PageState.{PageState}
 use Rattle.mutation_script.specs.Changes.{change}
 use Rattle.sensor_meaning.specs.declared.change.Change.{Change}
 use Rattle.sensor_meaning.specs.declared.sensor.Sensor.{Sensor}
-use Rattle.sensor_meaning.specs.declared.sensor.Observes.{Observes}
 use Rattle.sensor_meaning.specs.Changes.{observes, places_of}
-use Rattle.sensor_meaning.specs.Dirty.{brought, dirty, hit, is_reached, spread}
+use Rattle.sensor_meaning.specs.Dirty.{brought, hit, is_reached, spread}
 use Rattle.sensor_meaning.specs.Sensors.{Sensors, sensors}
 use Rattle.sensor_laws.proofs.Any.{is_in-filter}
 use Rattle.retest_laws.specs.Pending.{Pairs, due_at, budget}

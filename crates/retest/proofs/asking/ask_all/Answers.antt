@@ -1,12 +1,11 @@
-use Rattle.std.proofs.Common.{◌≡◌, ◌∙◌, ◌==◌, ◌&&◌, ◌||◌, ◌+◌, ◌<◌, ◌≤◌, ℕ, Bool, true, false, cond, List, take, length, get_or, refl, sym, ap, ap₂, arith, inl, inr}
+use Rattle.std.proofs.Common.{◌≡◌, ◌∙◌, ◌==◌, ◌&&◌, ◌||◌, ◌<◌, ℕ, Bool, true, false, cond, take, length, get_or, refl, sym, ap, ap₂, arith, inl, inr}
 use Rattle.std.proofs.lemmas.Bool.{cases_Bool, eq-eqb, eqb-true}
 use Rattle.std.proofs.lemmas.List.Folds.{list_any_at}
 use Rattle.page_tree.specs.Directions.{is_in}
 use Rattle.generic_tables.proofs.Written.{eq-turned}
 use Rattle.kept_marks.specs.Kept.{is_marked}
 use Rattle.retest.specs.Asked.{answers}
-use Rattle.retest.specs.Priced.{price}
-use Rattle.retest.proofs.Pricing.{asked_more, none_asked}
+use Rattle.retest.proofs.Pricing.{asked_more}
 use Rattle.retest.proofs.Visits.{turn}
 use Rattle.retest.proofs.asking.ask_all.Goals as goal
 

@@ -4,7 +4,6 @@ use Rattle.mutation_script.specs.declared.page.PageState.{PageState}
 use Rattle.mutation_script.specs.Changes.{change}
 use Rattle.engine_meaning.specs.States.{State, hidden_of, mutated}
 use Rattle.hide_engine.specs.Budgets.{event_budget, event_tests}
-use Rattle.hide_engine.specs.Changes.{change_of, IsUnseen}
 use Rattle.hide_engine.specs.Ready.{state_of}
 use Rattle.hide_engine.proofs.Unseen.{unasked}
 use Rattle.hide_engine.proofs.engine.Engine.apply.Goals as goal

@@ -1,4 +1,4 @@
-use Rattle.std.proofs.Common.{◌≡◌, length, ap, ◌∙◌}
+use Rattle.std.proofs.Common.{length, ap, ◌∙◌}
 use Rattle.cos_patterns.specs.Found.{pattern_found}
 use Rattle.selector_tree.specs.declared.filter.Action.TheVariants.{Hide}
 use Rattle.engine_meaning.specs.States.{State, hidden_of}
