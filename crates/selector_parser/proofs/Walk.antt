@@ -26,12 +26,13 @@ use Rattle.selector_spelling.specs.declared.reading.Chains.{Chains}
 use Rattle.selector_spelling.specs.declared.reading.Setting.{Setting}
 use Rattle.selector_spelling.specs.Bytes.{Bytes, front, behind, begins_with, is_pseudo_byte, is_empty, is_blank, is_number, number, colon, dot, hash, star, square_open, round_open}
 use Rattle.selector_spelling.specs.Names.{Taken, begins_name, name}
+use Rattle.selector_spelling.specs.Operators.{operator_of}
 use Rattle.selector_spelling.specs.Scan.{Scan, bare, is_bare, is_wrong, is_too_deep, standing, opens, is_closed, unbalanced, too_nested}
 use Rattle.selector_spelling.specs.Scan as scan
 use Rattle.selector_spelling.specs.Cuts.{Part, Item, combinator, compound, missing, longer, parts_from, parts, is_comma, is_sign, filled, behind_space, compounds, compounds_of, behind_signs, items, items_of_has, items_of}
 use Rattle.selector_spelling.specs.Attributes.{comparison, value, flag, compared, attribute}
 use Rattle.selector_spelling.specs.Arguments.{nth, text_units, degree, text_argument, sought, attribute_pair, watched}
-use Rattle.selector_spelling.specs.Pieces.{◌>>=◌, bad, or_bad, operating, ask, ask_each, plain_of, plain_reading, without_argument_reading, searching, measuring, matching, watching, climbing, counting, if_blank, action, selecting_test, upward_to, Piece, without_argument, named, attributed, tag, piece_length, then_others, upward, by_operator, operator_of, with_argument, behind_name, pseudo, piece, pieces}
+use Rattle.selector_spelling.specs.Pieces.{◌>>=◌, bad, or_bad, operating, ask, ask_each, plain_of, plain_reading, without_argument_reading, searching, measuring, matching, watching, climbing, counting, if_blank, action, selecting_test, upward_to, Piece, without_argument, named, attributed, tag, piece_length, then_others, upward, by_operator, with_argument, behind_name, pseudo, piece, pieces}
 use Rattle.selector_spelling.specs.Texts.{place_of, item, chain, chains, are_several, argument, selector_of, Answer, found, bad_pattern, pattern_too_large, by_answer, first_refused, unless, malformed_at, read_text}
 use Rattle.selector_parser.proofs.Args.{AreLow, bound_some, any_some, chosen_some, IsArg, sought_read, IsPair, pair_read}
 use Rattle.selector_parser.proofs.Layers.{IsTest, AreSteps, AreChains, no_chains, more_chains, no_steps, one_step, steps_joined, keep_step, move_step, upward_step, upward_to_step, others_step, any_test, tag_test, id_test, class_test, attr_test, root_test, empty_test, nth_test, only_test, length_test, watch_test, is_test, not_test, has_test, text_test, path_test, pair_test}

@@ -14,8 +14,9 @@ use Rattle.selector_spelling.specs.declared.reading.Chains.{Chains}
 use Rattle.selector_spelling.specs.declared.reading.Setting.{Setting}
 use Rattle.selector_spelling.specs.Bytes.{Bytes, begins_with, front, behind, is_empty, is_pseudo_byte, colon}
 use Rattle.selector_spelling.specs.Names.{begins_name}
+use Rattle.selector_spelling.specs.Operators.{operator_of}
 use Rattle.selector_spelling.specs.Scan.{Scan, is_selector, standing, bare, opens, step, within, is_closed, behind_name, behind_colon}
-use Rattle.selector_spelling.specs.Pieces.{◌>>=◌, operator_of, Piece, by_operator, with_argument, without_argument, pseudo_class, piece}
+use Rattle.selector_spelling.specs.Pieces.{◌>>=◌, Piece, by_operator, with_argument, without_argument, pseudo_class, piece}
 use Rattle.selector_spelling.specs.declared.operator.Operator.{Operator}
 use Rattle.selector_spelling.specs.Pieces as spelled
 use Rattle.selector_round_trip.proofs.Scanned.{is_deep, over, over-append, is_other, is_sound, is_uncut, sound-append, uncut-append, IsSound, IsClosed, IsClosed-nil, IsClosed-append, IsKept, closed_by, kept_sound, kept_uncut, sound-lift, uncut-lift, over-lift, lift}

@@ -1,11 +1,10 @@
 -- Each piece that is read has a canonical text, which is read as that piece.
-use Rattle.std.proofs.Common.{inl, inr, ◌≡◌, ℕ, ℤ, ◌+◌, ◌-◌, ◌^◌, ◌<◌, ◌≤◌, Bool, true, false, not, eqb, ◌&&◌, ◌||◌, List, [], ◌∷◌, ◌++◌, map, length, length-append, codes, Option, Some, None, Result, Ok, if◌then◌else◌, refl, sym, ap, ap₂, subst, ◌∙◌, append_assoc, append-nil, arith}
+use Rattle.std.proofs.Common.{◌≡◌, ℕ, ℤ, ◌+◌, ◌-◌, ◌^◌, ◌<◌, ◌≤◌, Bool, true, false, not, eqb, ◌&&◌, ◌||◌, List, [], ◌∷◌, ◌++◌, map, length, length-append, codes, Option, Some, None, Result, Ok, if◌then◌else◌, refl, sym, ap, ap₂, subst, ◌∙◌, append_assoc, append-nil, arith}
 use Rattle.std.specs.Fmt.{decimal, signed_decimal}
 use Rattle.std.specs.List.{list_all}
 use Rattle.std.specs.Char.{is_ascii_digit}
-use Rattle.std.specs.Str.{bytes_eq, str_to_ascii_lowercase}
-use Rattle.std.proofs.lemmas.Slice.Eq.{bytes_eq-Decides}
-use Rattle.std.proofs.lemmas.Bool.{or_cases, or_from, both_ways, and_from, or_right}
+use Rattle.std.specs.Str.{str_to_ascii_lowercase}
+use Rattle.std.proofs.lemmas.Bool.{or_from, both_ways, and_from, or_right}
 use Rattle.cos_source.specs.Spaces.{is_space, before_text, without_first_spaces, without_last_spaces, trimmed}
 use Rattle.selector_tree.specs.declared.selector.Arg.{Arg}
 use Rattle.selector_tree.specs.declared.selector.Arg.TheVariants.{Literal, Pattern}
@@ -24,16 +23,15 @@ use Rattle.selector_spelling.specs.declared.open.Open.TheVariants.{Selector, Raw
 use Rattle.selector_spelling.specs.declared.reading.Reading.{Reading}
 use Rattle.selector_spelling.specs.declared.reading.Chains.{Chains}
 use Rattle.selector_spelling.specs.declared.reading.Setting.{Setting}
-use Rattle.selector_spelling.specs.Bytes.{Bytes, begins_with, front, behind, is_empty, is_number, is_pseudo_byte, is_one_of}
+use Rattle.selector_spelling.specs.Bytes.{Bytes, begins_with, front, behind, is_empty, is_number, is_pseudo_byte}
 use Rattle.selector_spelling.specs.Names.{name, begins_name}
+use Rattle.selector_spelling.specs.Operators.{operator_of}
 use Rattle.selector_spelling.specs.Scan.{standing, is_bare, opens, step, within, is_closed, begins_number_argument}
 use Rattle.selector_spelling.specs.Attributes.{attribute}
 use Rattle.selector_spelling.specs.Arguments.{Nth, degree, sought, Pair}
-use Rattle.selector_spelling.specs.Pieces.{◌>>=◌, or_bad, or_else, ask, ask_each, keep, operating, standard_of, procedural_of, aside_of, operator_of, nth_test, search_test, length_test, pair_test, watch_test, upward_step, selecting_test, Piece, by_operator, piece}
+use Rattle.selector_spelling.specs.Pieces.{◌>>=◌, or_bad, ask, ask_each, keep, operating, nth_test, search_test, length_test, pair_test, watch_test, upward_step, selecting_test, Piece, by_operator, piece}
 use Rattle.selector_spelling.specs.declared.operator.Operator.{Operator}
 use Rattle.selector_spelling.specs.declared.operator.Operator.TheVariants as operator
-use Rattle.selector_spelling.specs.declared.finding.Kind.{Kind}
-use Rattle.std.specs.Prelude.{option_map}
 use Rattle.selector_spelling.specs.Pieces as spelled
 use Rattle.selector_round_trip.specs.RoundTrip.{Asked}
 use Rattle.selector_round_trip.specs.Balanced.{is_balanced, test_is_balanced, are_balanced}
@@ -132,69 +130,6 @@ searches_text = record { n = codes "has-text"; pseudo = pseudo (codes "has-text"
 pub searches_path : Searching test.MatchesPath operator.MatchesPath
 searches_path = record { n = codes "matches-path"; pseudo = pseudo (codes "matches-path") refl refl refl refl; named = refl; prints = text_of_test-MatchesPath; opens = λ argument. refl }
 
--- ---- what their brackets open
-
--- the argument of an operator with a text is raw
-abbrev pub RightBracket : Open → Option Operator → Type 0
-RightBracket bracket (Some operator.HasText) = bracket ≡ Raw
-RightBracket bracket (Some operator.MatchesPath) = bracket ≡ Raw
-RightBracket bracket (Some operator.MatchesAttr) = bracket ≡ Raw
-RightBracket bracket o = Unit {0}
-
-same_bytes : (P : Bytes → Type 0) (n a : Bytes) → P a → bytes_eq n a ≡ true → P n
-same_bytes P n a h e = subst P (sym ((bytes_eq-Decides n a).0 e)) h
-
-by_two : (P : Bytes → Type 0) (n a b : Bytes) → P a → P b → is_one_of n (a ∷ b ∷ []) ≡ true → P n
-by_two P n a b h g e =
-    elim (or_cases (bytes_eq n a) (bytes_eq n b || false) e) [
-      | inl is ↦ same_bytes P n a h is
-      | inr more ↦ elim (or_cases (bytes_eq n b) false more) [ inl is ↦ same_bytes P n b g is | inr none ↦ absurd (both_ways false refl none) ]
-    ]
-
-right : (bracket : Open) (c : Bool) (x y : Option Operator) → (c ≡ true → RightBracket bracket x) → RightBracket bracket y → RightBracket bracket (if c then x else y)
-right bracket true x y h g = h refl
-right bracket false x y h g = g
-
-right_else : (bracket : Open) (x y : Option Operator) → RightBracket bracket x → RightBracket bracket y → RightBracket bracket (or_else x y)
-right_else bracket None y h g = g
-right_else bracket (Some o) y h g = h
-
-right_aside : (bracket : Open) (o : Option Kind) → RightBracket bracket (option_map operator.Aside o)
-right_aside bracket None = tt
-right_aside bracket (Some k) = tt
-
-module _ (n text : Bytes) where
-  abbrev o : Open
-  o = opens n text
-
-  abbrev raw : Bytes → Type 0
-  raw m = opens m text ≡ Raw
-
-  standard_right : RightBracket o (standard_of n)
-  standard_right =
-      right o (is_one_of n (codes "is" ∷ codes "where" ∷ [])) _ _ (λ e. tt)
-      (right o (bytes_eq n (codes "not")) _ _ (λ e. tt)
-      (right o (is_one_of n (codes "has" ∷ codes "-abp-has" ∷ [])) _ _ (λ e. tt)
-      (right o (bytes_eq n (codes "nth-child")) _ _ (λ e. tt)
-      (right o (bytes_eq n (codes "nth-last-child")) _ _ (λ e. tt)
-      (right o (bytes_eq n (codes "nth-of-type")) _ _ (λ e. tt)
-      (right o (bytes_eq n (codes "nth-last-of-type")) _ _ (λ e. tt) tt))))))
-
-  procedural_right : RightBracket o (procedural_of n)
-  procedural_right =
-      right o (is_one_of n (codes "has-text" ∷ codes "-abp-contains" ∷ [])) _ _ (λ e. by_two raw n (codes "has-text") (codes "-abp-contains") refl refl e)
-      (right o (bytes_eq n (codes "min-text-length")) _ _ (λ e. tt)
-      (right o (bytes_eq n (codes "matches-path")) _ _ (λ e. same_bytes raw n (codes "matches-path") refl e)
-      (right o (bytes_eq n (codes "matches-attr")) _ _ (λ e. same_bytes raw n (codes "matches-attr") refl e)
-      (right o (bytes_eq n (codes "watch-attr")) _ _ (λ e. tt)
-      (right o (bytes_eq n (codes "upward")) _ _ (λ e. tt)
-      (right o (bytes_eq n (codes "others")) _ _ (λ e. tt)
-      (right o (bytes_eq n (codes "remove")) _ _ (λ e. tt) tt)))))))
-
-  pub right_bracket : RightBracket (opens n text) (operator_of n)
-  right_bracket = right_else o (standard_of n) (or_else (procedural_of n) (option_map operator.Aside (aside_of n))) standard_right
-      (right_else o (procedural_of n) (option_map operator.Aside (aside_of n)) procedural_right (right_aside o (aside_of n)))
-
 -- how a counting pseudo-class is spelled
 record Counting (from_end of_name : Bool) : Type 0 where
   n : Bytes
@@ -243,7 +178,7 @@ number_argument n rest h =
     let g : behind is_ascii_digit (decimal n ++ 41 ∷ rest) ≡ 41 ∷ rest = behind_digits (decimal n) (41 ∷ rest) d.digits in
     let b : begins_number_argument (decimal n ++ 41 ∷ rest) ≡ true =
     ap₂ (λ (x y : Bytes). not (is_empty x) && begins_with 41 (without_first_spaces y)) f g ∙ ap (λ (c : Bool). not c && true) d.some in
-    ap (λ (t : Bytes). if not (begins_number_argument t) then Selector else Round) e ∙ ap (λ (c : Bool). if not c then Selector else Round) b
+    ap (λ (t : Bytes). if begins_number_argument t then Round else Selector) e ∙ ap (λ (c : Bool). if c then Round else Selector) b
 
 first_solid : (text rest : Bytes) → Starts text → without_first_spaces (text ++ rest) ≡ text ++ rest
 first_solid text rest s =
@@ -254,8 +189,8 @@ selector_argument : (text rest : Bytes) → Starts text → opens (codes "upward
 selector_argument text rest s =
     let all = s.others ++ 41 ∷ rest in
     let f : front is_ascii_digit (text ++ 41 ∷ rest) ≡ [] = ap (λ (t : Bytes). front is_ascii_digit (t ++ 41 ∷ rest)) s.is ∙ ap (λ (c : Bool). if c then s.first ∷ front is_ascii_digit all else []) s.letter in
-    ap (λ (t : Bytes). if not (begins_number_argument t) then Selector else Round) (first_solid text (41 ∷ rest) s)
-    ∙ ap (λ (t : Bytes). if not (not (is_empty t) && begins_with 41 (without_first_spaces (behind is_ascii_digit (text ++ 41 ∷ rest)))) then Selector else Round) f
+    ap (λ (t : Bytes). if begins_number_argument t then Round else Selector) (first_solid text (41 ∷ rest) s)
+    ∙ ap (λ (t : Bytes). if not (is_empty t) && begins_with 41 (without_first_spaces (behind is_ascii_digit (text ++ 41 ∷ rest))) then Round else Selector) f
 
 no_number : (b : ℕ) (text : Bytes) → is_ascii_digit b ≡ false → is_number (b ∷ text) ≡ false
 no_number b text h = ap (λ (c : Bool). is_empty (if c then behind is_ascii_digit text else b ∷ text)) h

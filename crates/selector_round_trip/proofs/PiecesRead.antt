@@ -20,14 +20,15 @@ use Rattle.selector_spelling.specs.declared.reading.Chains.{Chains}
 use Rattle.selector_spelling.specs.declared.reading.Setting.{Setting}
 use Rattle.selector_spelling.specs.Bytes.{Bytes, begins_with, front, behind, is_empty, is_blank, is_number, is_pseudo_byte, colon}
 use Rattle.selector_spelling.specs.Names.{Taken, name, begins_name}
-use Rattle.selector_spelling.specs.Scan.{standing, opens, within, is_closed}
+use Rattle.selector_spelling.specs.Operators.{operator_of}
+use Rattle.selector_spelling.specs.Scan.{standing, opened_by, opens, within, is_closed}
 use Rattle.selector_spelling.specs.declared.open.Open.{Open}
 use Rattle.selector_round_trip.proofs.Closed.{raw_argument}
 use Rattle.selector_round_trip.proofs.Marks.{marks, run, depth, search_balanced, pair_balanced, sought_same}
 use Rattle.selector_tree.specs.Canonical.{arg_text}
 use Rattle.selector_spelling.specs.Attributes.{attribute}
 use Rattle.selector_spelling.specs.Arguments.{nth, text_units, degree, text_argument, sought, attribute_pair, watched}
-use Rattle.selector_spelling.specs.Pieces.{◌>>=◌, or_bad, keep, operator_of, plain_of, plain_reading, nth_test, search_test, length_test, pair_test, watch_test, upward_step, selecting_test, Piece, by_operator, piece}
+use Rattle.selector_spelling.specs.Pieces.{◌>>=◌, or_bad, keep, plain_of, plain_reading, nth_test, search_test, length_test, pair_test, watch_test, upward_step, selecting_test, Piece, by_operator, piece}
 use Rattle.selector_spelling.specs.declared.operator.Operator.{Operator}
 use Rattle.selector_spelling.specs.declared.operator.Operator.TheVariants as operator
 use Rattle.selector_spelling.specs.declared.operator.Plain.{Plain}
@@ -40,7 +41,7 @@ use Rattle.selector_round_trip.proofs.Numbers.{nth_small, units_small, degree_sm
 use Rattle.selector_round_trip.proofs.Args.{sought_read, pair_read}
 use Rattle.selector_round_trip.proofs.Watched.{watched_read}
 use Rattle.selector_round_trip.proofs.Attributes.{attribute_read}
-use Rattle.selector_round_trip.proofs.Pieces.{IsSelector, IsPiece, Selecting, Searching, selects_is, selects_not, selects_has, searches_text, searches_path, RightBracket, right_bracket, pseudo, upward_reading, selecting_piece, upward_to_piece, upward_piece, counting_piece, searching_piece, measuring_piece, matching_piece, watching_piece, others_piece, action_piece, plain_piece, id_piece, class_piece, tag_piece, any_piece, attr_piece}
+use Rattle.selector_round_trip.proofs.Pieces.{IsSelector, IsPiece, Selecting, Searching, selects_is, selects_not, selects_has, searches_text, searches_path, pseudo, upward_reading, selecting_piece, upward_to_piece, upward_piece, counting_piece, searching_piece, measuring_piece, matching_piece, watching_piece, others_piece, action_piece, plain_piece, id_piece, class_piece, tag_piece, any_piece, attr_piece}
 
 all_one : (s : Step) → list_all step_is_balanced (s ∷ []) ≡ true → step_is_balanced s ≡ true
 all_one s h = (and_parts (step_is_balanced s) true h).0
@@ -137,27 +138,27 @@ module _ (inner : Bool → ℕ → Bytes → Result Chains Finding) (setting : S
       on_option ends cause.BadOperatorArgument place (sought (text_argument argument)) (λ a. Ok (search_test f place a)) (λ a e balanced. hides ends (search_test f place a) refl
       (searching_piece inner setting k good first f o place a s reads (sought_read argument a e) (subst (λ (x : Arg). is_balanced (arg_text x) ≡ true) (sought_same (text_argument argument) a e) (search_balanced argument raw))))
 
-  operator_good : (ends : Bool) (place from : ℕ) (argument : Bytes) (bracket : Open) → (bracket ≡ Raw → depth (run (marks 0 false) argument) ≡ Some 0)
-      → (o : Option Operator) → RightBracket bracket o → OnReading ends (by_operator inner setting first ends place from argument o)
-  operator_good ends place from argument bracket raw None right = tt
-  operator_good ends place from argument bracket raw (Some operator.Is) right = selecting_good ends from argument test.Is false operator.Is selects_is (λ last there start text. refl)
-  operator_good ends place from argument bracket raw (Some operator.Not) right = selecting_good ends from argument test.Not false operator.Not selects_not (λ last there start text. refl)
-  operator_good ends place from argument bracket raw (Some operator.Has) right = selecting_good ends from argument test.Has true operator.Has selects_has (λ last there start text. refl)
-  operator_good ends place from argument bracket raw (Some (operator.Nth from_end of_name)) right =
+  operator_good : (ends : Bool) (place from : ℕ) (text argument : Bytes) (o : Option Operator) → (opened_by o text ≡ Raw → depth (run (marks 0 false) argument) ≡ Some 0)
+      → OnReading ends (by_operator inner setting first ends place from argument o)
+  operator_good ends place from text argument None raw = tt
+  operator_good ends place from text argument (Some operator.Is) raw = selecting_good ends from argument test.Is false operator.Is selects_is (λ last there start text. refl)
+  operator_good ends place from text argument (Some operator.Not) raw = selecting_good ends from argument test.Not false operator.Not selects_not (λ last there start text. refl)
+  operator_good ends place from text argument (Some operator.Has) raw = selecting_good ends from argument test.Has true operator.Has selects_has (λ last there start text. refl)
+  operator_good ends place from text argument (Some (operator.Nth from_end of_name)) raw =
       on_option ends cause.BadNumber place (nth argument) (λ v. Ok (nth_test from_end of_name v)) (λ v e balanced. hides ends (nth_test from_end of_name v) refl (counting_piece inner setting k good first from_end of_name v (nth_small argument v e)))
-  operator_good ends place from argument bracket raw (Some operator.HasText) right = searching_good ends place argument test.HasText operator.HasText searches_text (λ last there start text. refl) (raw right)
-  operator_good ends place from argument bracket raw (Some operator.MinText) right =
+  operator_good ends place from text argument (Some operator.HasText) raw = searching_good ends place argument test.HasText operator.HasText searches_text (λ last there start text. refl) (raw refl)
+  operator_good ends place from text argument (Some operator.MinText) raw =
       on_option ends cause.BadOperatorArgument place (text_units argument) (λ n. Ok (length_test n)) (λ n e balanced. hides ends (length_test n) refl (measuring_piece inner setting k good first n (units_small argument n e)))
-  operator_good ends place from argument bracket raw (Some operator.MatchesPath) right = searching_good ends place argument test.MatchesPath operator.MatchesPath searches_path (λ last there start text. refl) (raw right)
-  operator_good ends place from argument bracket raw (Some operator.MatchesAttr) right =
+  operator_good ends place from text argument (Some operator.MatchesPath) raw = searching_good ends place argument test.MatchesPath operator.MatchesPath searches_path (λ last there start text. refl) (raw refl)
+  operator_good ends place from text argument (Some operator.MatchesAttr) raw =
       on_option ends cause.BadOperatorArgument place (attribute_pair argument) (λ p. Ok (pair_test place p)) (λ p e balanced. hides ends (pair_test place p) refl
-      (matching_piece inner setting k good first place p (pair_read argument p e) (pair_balanced argument p e (sym (balance-MatchesAttr p.name p.value) ∙ all_keep (test.MatchesAttr p.name p.value) balanced) (raw right))))
-  operator_good ends place from argument bracket raw (Some operator.WatchAttr) right =
+      (matching_piece inner setting k good first place p (pair_read argument p e) (pair_balanced argument p e (sym (balance-MatchesAttr p.name p.value) ∙ all_keep (test.MatchesAttr p.name p.value) balanced) (raw refl))))
+  operator_good ends place from text argument (Some operator.WatchAttr) raw =
       on_option ends cause.BadOperatorArgument place (watched argument) (λ names. Ok (watch_test names)) (λ names e balanced. hides ends (watch_test names) refl (watching_piece inner setting k good first names (watched_read argument names e)))
-  operator_good ends place from argument bracket raw (Some operator.Upward) right = upward_good ends place from argument
-  operator_good ends place from argument bracket raw (Some operator.Others) right = others_good ends place argument
-  operator_good ends place from argument bracket raw (Some operator.Remove) right = action_good ends place argument
-  operator_good ends place from argument bracket raw (Some (operator.Aside a)) right = tt
+  operator_good ends place from text argument (Some operator.Upward) raw = upward_good ends place from argument
+  operator_good ends place from text argument (Some operator.Others) raw = others_good ends place argument
+  operator_good ends place from text argument (Some operator.Remove) raw = action_good ends place argument
+  operator_good ends place from text argument (Some (operator.Aside a)) raw = tt
 
   -- ---- pieces without an argument
 
@@ -227,9 +228,8 @@ module _ (inner : Bool → ℕ → Bytes → Result Chains Finding) (setting : S
       ap (λ (c : ℕ). drop c (58 ∷ (n ++ 40 ∷ text))) e ∙ drop_past n (40 ∷ text) (suc m)) in
       piece_cond (58 ∷ (n ++ 40 ∷ text)) (is_closed (standing (opens low text ∷ [])) text) _ _
       (λ closed. with_good (58 ∷ (n ++ 40 ∷ text)) size (is_empty (drop m text)) (by_operator inner setting first (is_empty (drop m text)) place from argument (operator_of low))
-      (operator_good (is_empty (drop m text)) place from argument (opens low text)
-      (λ h. ap (λ (o : Open). depth (run (marks 0 false) (within (standing (o ∷ [])) text))) h ∙ raw_argument text (ap (λ (o : Open). is_closed (standing (o ∷ [])) text) (sym h) ∙ closed))
-      (operator_of low) (right_bracket low text))
+      (operator_good (is_empty (drop m text)) place from text argument (operator_of low)
+      (λ h. ap (λ (o : Open). depth (run (marks 0 false) (within (standing (o ∷ [])) text))) h ∙ raw_argument text (ap (λ (o : Open). is_closed (standing (o ∷ [])) text) (sym h) ∙ closed)))
       (λ ends. left ∙ empty_nil (drop m text) ends))
       (λ open_still. tt)
 

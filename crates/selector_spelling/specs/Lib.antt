@@ -1,5 +1,6 @@
 pub mod Bytes
 pub mod Names
+pub mod Operators
 pub mod Scan
 pub mod Cuts
 pub mod Attributes

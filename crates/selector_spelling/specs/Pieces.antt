@@ -1,5 +1,5 @@
 -- A compound, piece by piece: each has its step, or a finding.
-use Rattle.std.specs.Prelude.{ℕ, zero, suc, ◌+◌, ◌-◌, pos, Bool, true, false, not, ◌==◌, ◌&&◌, ◌||◌, List, [], ◌∷◌, ◌++◌, length, drop, codes, Option, Some, None, option_map, Result, Ok, Err, if◌then◌else◌}
+use Rattle.std.specs.Prelude.{ℕ, zero, suc, ◌+◌, ◌-◌, pos, Bool, true, false, not, ◌==◌, ◌&&◌, ◌||◌, List, [], ◌∷◌, ◌++◌, length, drop, codes, Option, Some, None, Result, Ok, Err, if◌then◌else◌}
 use Rattle.std.specs.Str.{bytes_eq, str_to_ascii_lowercase}
 use Rattle.cos_source.specs.Spaces.{trimmed}
 use Rattle.selector_tree.specs.declared.selector.Arg.{Arg}
@@ -27,6 +27,7 @@ use Rattle.selector_spelling.specs.declared.reading.Chains.{Chains}
 use Rattle.selector_spelling.specs.declared.reading.Setting.{Setting}
 use Rattle.selector_spelling.specs.Bytes.{Bytes, front, behind, begins_with, is_pseudo_byte, is_empty, is_blank, is_number, is_one_of, colon, dot, hash, star, square_open, round_open}
 use Rattle.selector_spelling.specs.Names.{Taken, begins_name, name}
+use Rattle.selector_spelling.specs.Operators.{operator_of}
 use Rattle.selector_spelling.specs.Scan.{standing, opens, within, is_closed}
 use Rattle.selector_spelling.specs.Attributes.{attribute}
 use Rattle.selector_spelling.specs.Arguments.{Nth, nth, text_units, degree, text_argument, sought, Pair, attribute_pair, watched}
@@ -108,54 +109,6 @@ plain_of n =
     else if is_one_of n state_names then Some (plain.Aside kind.State)
     else if is_one_of n element_names then Some (plain.Aside kind.PseudoElement)
     else None
-
--- the first of two that is there
-abbrev pub or_else : {A : Type 0} → Option A → Option A → Option A
-or_else None other = other
-or_else (Some x) other = Some x
-
--- what `:name(..)` is where it takes a selector or a number
-abbrev pub standard_of : Bytes → Option Operator
-standard_of n =
-    if is_one_of n (codes "is" ∷ codes "where" ∷ []) then Some operator.Is
-    else if bytes_eq n (codes "not") then Some operator.Not
-    else if is_one_of n (codes "has" ∷ codes "-abp-has" ∷ []) then Some operator.Has
-    else if bytes_eq n (codes "nth-child") then Some (operator.Nth false false)
-    else if bytes_eq n (codes "nth-last-child") then Some (operator.Nth true false)
-    else if bytes_eq n (codes "nth-of-type") then Some (operator.Nth false true)
-    else if bytes_eq n (codes "nth-last-of-type") then Some (operator.Nth true true)
-    else None
-
--- where it is a procedural operator
-abbrev pub procedural_of : Bytes → Option Operator
-procedural_of n =
-    if is_one_of n (codes "has-text" ∷ codes "-abp-contains" ∷ []) then Some operator.HasText
-    else if bytes_eq n (codes "min-text-length") then Some operator.MinText
-    else if bytes_eq n (codes "matches-path") then Some operator.MatchesPath
-    else if bytes_eq n (codes "matches-attr") then Some operator.MatchesAttr
-    else if bytes_eq n (codes "watch-attr") then Some operator.WatchAttr
-    else if bytes_eq n (codes "upward") then Some operator.Upward
-    else if bytes_eq n (codes "others") then Some operator.Others
-    else if bytes_eq n (codes "remove") then Some operator.Remove
-    else None
-
--- where it is set aside
-abbrev pub aside_of : Bytes → Option Kind
-aside_of n =
-    if is_one_of n (codes "lang" ∷ codes "dir" ∷ []) then Some kind.State
-    else if bytes_eq n (codes "style") then Some kind.Style
-    else if bytes_eq n (codes "xpath") then Some kind.Xpath
-    else if bytes_eq n (codes "shadow") then Some kind.Shadow
-    else if is_one_of n (codes "matches-css" ∷ codes "matches-css-before" ∷ codes "matches-css-after" ∷ []) then Some kind.MatchesCss
-    else if bytes_eq n (codes "matches-media") then Some kind.MatchesMedia
-    else if bytes_eq n (codes "matches-prop") then Some kind.MatchesProp
-    else if bytes_eq n (codes "-abp-properties") then Some kind.AbpProperties
-    else if bytes_eq n (codes "remove-attr") then Some kind.RemoveAttr
-    else if bytes_eq n (codes "remove-class") then Some kind.RemoveClass
-    else None
-
-abbrev pub operator_of : Bytes → Option Operator
-operator_of n = or_else (standard_of n) (or_else (procedural_of n) (option_map operator.Aside (aside_of n)))
 
 -- ---- pieces whose argument is no selector
 

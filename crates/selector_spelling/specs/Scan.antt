@@ -1,38 +1,38 @@
 -- What is open before each byte of a text: brackets, strings, escapes. A place is bare where nothing is.
-use Rattle.std.specs.Prelude.{ℕ, zero, suc, ◌+◌, nat_le, nat_lt, Bool, true, false, not, ◌==◌, ◌&&◌, ◌||◌, List, [], ◌∷◌, length, codes, Option, Some, None, if◌then◌else◌}
+use Rattle.std.specs.Prelude.{ℕ, zero, suc, ◌+◌, nat_le, nat_lt, Bool, true, false, not, ◌==◌, ◌&&◌, ◌||◌, List, [], ◌∷◌, length, Option, Some, None, if◌then◌else◌}
 use Rattle.std.specs.Char.{is_ascii_digit}
 use Rattle.std.specs.List.{list_all}
-use Rattle.std.specs.Str.{bytes_eq, str_to_ascii_lowercase}
+use Rattle.std.specs.Str.{str_to_ascii_lowercase}
 use Rattle.cos_source.specs.Spaces.{without_first_spaces}
 use Rattle.selector_spelling.specs.declared.open.Open.{Open}
 use Rattle.selector_spelling.specs.declared.open.Open.TheVariants.{Selector, Raw, Round, Square, DoubleQuote, SingleQuote}
-use Rattle.selector_spelling.specs.Bytes.{Bytes, front, behind, begins_with, is_pseudo_byte, is_quote, is_empty, is_one_of, double_quote, single_quote, round_open, round_close, square_open, square_close, backslash, colon}
+use Rattle.selector_spelling.specs.declared.finding.Kind.TheVariants as kind
+use Rattle.selector_spelling.specs.declared.operator.Operator.{Operator}
+use Rattle.selector_spelling.specs.declared.operator.Operator.TheVariants as operator
+use Rattle.selector_spelling.specs.Bytes.{Bytes, front, behind, begins_with, is_pseudo_byte, is_quote, is_empty, double_quote, single_quote, round_open, round_close, square_open, square_close, backslash, colon}
 use Rattle.selector_spelling.specs.Names.{escape, letter_length}
-
--- the names whose argument is raw: in it only `\`, `(` and `)` count
-abbrev pub raw_names : List Bytes
-raw_names =
-    codes "has-text" ∷ codes "-abp-contains" ∷ codes "min-text-length" ∷ codes "matches-path" ∷ codes "matches-attr"
-    ∷ codes "watch-attr" ∷ codes "others" ∷ codes "remove" ∷ codes "remove-attr" ∷ codes "remove-class" ∷ codes "style"
-    ∷ codes "xpath" ∷ codes "shadow" ∷ codes "matches-css" ∷ codes "matches-css-before" ∷ codes "matches-css-after"
-    ∷ codes "matches-media" ∷ codes "matches-prop" ∷ codes "-abp-properties" ∷ []
-
--- the names whose argument is a selector
-abbrev pub selector_names : List Bytes
-selector_names = codes "is" ∷ codes "where" ∷ codes "not" ∷ codes "has" ∷ codes "-abp-has" ∷ []
+use Rattle.selector_spelling.specs.Operators.{operator_of}
 
 -- digits up to the closing bracket, with white space around them
 abbrev pub begins_number_argument : Bytes → Bool
 begins_number_argument text =
     not (is_empty (front is_ascii_digit text)) && begins_with round_close (without_first_spaces (behind is_ascii_digit text))
 
+-- What the bracket of `:name(..)` opens, before its argument, by what the name is: a selector, another round bracket, or a raw
+-- argument, in which only `\`, `(` and `)` count.
+abbrev pub opened_by : Option Operator → Bytes → Open
+opened_by None argument = Round
+opened_by (Some operator.Is) argument = Selector
+opened_by (Some operator.Not) argument = Selector
+opened_by (Some operator.Has) argument = Selector
+opened_by (Some operator.Upward) argument = if begins_number_argument (without_first_spaces argument) then Round else Selector
+opened_by (Some (operator.Nth from_end of_name)) argument = Round
+opened_by (Some (operator.Aside kind.State)) argument = Round
+opened_by (Some o) argument = Raw
+
 -- what the bracket behind a name in lower case opens, before its argument
 abbrev pub opens : Bytes → Bytes → Open
-opens name argument =
-    if is_one_of name raw_names then Raw
-    else if is_one_of name selector_names then Selector
-    else if bytes_eq name (codes "upward") && not (begins_number_argument (without_first_spaces argument)) then Selector
-    else Round
+opens name argument = opened_by (operator_of name) argument
 
 -- How a scan stands before a byte: what is open, innermost first; how many bytes are still to come that count for nothing,
 -- those of an escape or of a name; and what a `(` opens behind these.

@@ -15,13 +15,13 @@ use Rattle.selector_spelling.specs.Scan.{Scan, bare, is_bare}
 use Rattle.selector_spelling.specs.Scan as scan
 use Rattle.selector_spelling.specs.Cuts.{Part, longer, parts_from, compound, filled, behind_space, compounds, is_sign}
 use Rattle.selector_spelling.specs.Pieces.{bad, nothing, Piece, piece_length, then_others, pieces}
-use Rattle.spelling_reader.specs.declared.cuts.Behind.{Behind}
-use Rattle.spelling_reader.specs.declared.cuts.First.{First}
-use Rattle.spelling_reader.specs.declared.cuts.Cut.TheVariants.{Space}
-use Rattle.spelling_reader.specs.Splits.{parts_behind, bytes_behind, IsFirst}
-use Rattle.spelling_reader.specs.Stops.{Inner, piece_at, ReadsPiece}
+use Rattle.selector_lexer.specs.declared.cuts.Behind.{Behind}
+use Rattle.selector_lexer.specs.declared.cuts.First.{First}
+use Rattle.selector_lexer.specs.declared.cuts.Cut.TheVariants.{Space}
+use Rattle.selector_lexer.specs.Splits.{parts_behind, bytes_behind, IsFirst}
+use Rattle.spelling_reader.specs.Readings.{Inner, piece_at, ReadsPiece}
 use Rattle.spelling_reader.specs.Chains.{items_read, compounds_read}
-use Rattle.spelling_reader.proofs.CutLaws.{cuts-separate}
+use Rattle.selector_lexer.proofs.CutLaws.{cuts-separate}
 use Rattle.spelling_reader.proofs.SoFar.{then_read}
 
 -- ---- pieces

@@ -19,12 +19,13 @@ use Rattle.selector_spelling.specs.Cuts.{Part, longer, parts_from, is_comma, fil
 use Rattle.selector_spelling.specs.Scan as scan
 use Rattle.selector_spelling.specs.Pieces.{◌>>=◌, bad, no_notes, one, Piece, pieces}
 use Rattle.selector_spelling.specs.Texts.{place_of, chains_then, chains, selector}
-use Rattle.spelling_reader.specs.declared.stop.Stop.{Stop}
-use Rattle.spelling_reader.specs.declared.cuts.Behind.{Behind}
-use Rattle.spelling_reader.specs.declared.cuts.First.{First}
-use Rattle.spelling_reader.specs.declared.cuts.Cut.TheVariants.{Comma, Sign, Space}
-use Rattle.spelling_reader.specs.Splits.{parts_behind, text_after, length_behind, IsFirst}
-use Rattle.spelling_reader.specs.Stops.{Inner, Fails, Reads, ReadsChains, ReadsPiece, piece_at}
+use Rattle.selector_lexer.specs.declared.stop.Stop.{Stop}
+use Rattle.selector_lexer.specs.declared.cuts.Behind.{Behind}
+use Rattle.selector_lexer.specs.declared.cuts.First.{First}
+use Rattle.selector_lexer.specs.declared.cuts.Cut.TheVariants.{Comma, Sign, Space}
+use Rattle.selector_lexer.specs.Splits.{parts_behind, text_after, length_behind, IsFirst}
+use Rattle.selector_lexer.specs.Stops.{Fails}
+use Rattle.spelling_reader.specs.Readings.{Inner, Reads, ReadsChains, ReadsPiece, piece_at}
 use Rattle.spelling_reader.specs.Chains.{items_read, compounds_read, signed_read, chain_read, lead}
 use Rattle.spelling_reader.proofs.ReadsLaws.{reads_one, notes-nothing}
 use Rattle.spelling_reader.proofs.SoFar.{then_read, SoFar, so_far_start, so_far_more, so_far_fails, so_far_last, so_far_last_fails, so_far_end}

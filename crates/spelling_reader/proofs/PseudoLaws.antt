@@ -16,13 +16,15 @@ use Rattle.selector_spelling.specs.declared.reading.Chains.{Chains}
 use Rattle.selector_spelling.specs.declared.reading.Setting.{Setting}
 use Rattle.selector_spelling.specs.Bytes.{Bytes, front, behind, begins_with, is_pseudo_byte, is_empty, colon, round_open}
 use Rattle.selector_spelling.specs.Names.{begins_name}
+use Rattle.selector_spelling.specs.Operators.{operator_of}
 use Rattle.selector_spelling.specs.Scan.{opens, standing, is_closed}
-use Rattle.selector_spelling.specs.Pieces.{◌>>=◌, bad, keep, Piece, where_closed, pseudo, pseudo_class, behind_name, with_argument, without_argument, without_argument_reading, by_operator, operator_of}
+use Rattle.selector_spelling.specs.Pieces.{◌>>=◌, bad, keep, Piece, where_closed, pseudo, pseudo_class, behind_name, with_argument, without_argument, without_argument_reading, by_operator}
 use Rattle.selector_spelling.specs.Texts.{argument, selector}
-use Rattle.spelling_reader.specs.declared.stop.Stop.{Stop}
-use Rattle.spelling_reader.specs.declared.stop.Stop.TheVariants as stop
-use Rattle.spelling_reader.specs.Splits.{IsArgument}
-use Rattle.spelling_reader.specs.Stops.{Inner, Fails, Reads, ReadsChains, ReadsPiece, ReadsTest, piece_at}
+use Rattle.selector_lexer.specs.declared.stop.Stop.{Stop}
+use Rattle.selector_lexer.specs.declared.stop.Stop.TheVariants as stop
+use Rattle.selector_lexer.specs.Splits.{IsArgument}
+use Rattle.selector_lexer.specs.Stops.{Fails}
+use Rattle.spelling_reader.specs.Readings.{Inner, Reads, ReadsChains, ReadsPiece, ReadsTest, piece_at}
 use Rattle.spelling_reader.proofs.ReadsLaws.{notes-nothing}
 
 fails-same : {A : Type 0} (e : Stop) (a b : Result A Finding) → a ≡ b → Fails e b → Fails e a

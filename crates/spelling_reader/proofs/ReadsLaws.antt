@@ -7,7 +7,7 @@ use Rattle.selector_spelling.specs.declared.reading.Ask.{Ask}
 use Rattle.selector_spelling.specs.declared.reading.Notes.{Notes}
 use Rattle.selector_spelling.specs.declared.reading.Reading.{Reading}
 use Rattle.selector_spelling.specs.Pieces.{no_notes, notes_joined, one}
-use Rattle.spelling_reader.specs.Stops.{Reads}
+use Rattle.spelling_reader.specs.Readings.{Reads}
 
 or-false : (b : Bool) → (b || false) ≡ b
 or-false true = refl

@@ -16,13 +16,14 @@ use Rattle.selector_spelling.specs.Scan as scan
 use Rattle.selector_spelling.specs.Cuts.{Part, longer, parts_from, combinator, space, compounds_of, behind_signs, is_sign, is_comma, items, items_of_has}
 use Rattle.selector_spelling.specs.Pieces.{◌>>=◌, no_notes, notes_joined, one}
 use Rattle.selector_spelling.specs.Texts.{place_of, chain, chains_then, chains, are_several}
-use Rattle.spelling_reader.specs.declared.stop.Stop.{Stop}
-use Rattle.spelling_reader.specs.declared.stop.Stop.TheVariants as stop
-use Rattle.spelling_reader.specs.declared.cuts.Behind.{Behind}
-use Rattle.spelling_reader.specs.declared.cuts.First.{First}
-use Rattle.spelling_reader.specs.declared.cuts.Cut.TheVariants.{Comma, Sign}
-use Rattle.spelling_reader.specs.Splits.{parts_behind, IsFirst}
-use Rattle.spelling_reader.specs.Stops.{Inner, Fails, Reads, ReadsChains}
+use Rattle.selector_lexer.specs.declared.stop.Stop.{Stop}
+use Rattle.selector_lexer.specs.declared.stop.Stop.TheVariants as stop
+use Rattle.selector_lexer.specs.declared.cuts.Behind.{Behind}
+use Rattle.selector_lexer.specs.declared.cuts.First.{First}
+use Rattle.selector_lexer.specs.declared.cuts.Cut.TheVariants.{Comma, Sign}
+use Rattle.selector_lexer.specs.Splits.{parts_behind, IsFirst}
+use Rattle.selector_lexer.specs.Stops.{Fails}
+use Rattle.spelling_reader.specs.Readings.{Inner, Reads, ReadsChains}
 use Rattle.spelling_reader.specs.Chains.{compounds_read, signed_read, chain_read, lead}
 use Rattle.spelling_reader.proofs.ReadsLaws.{notes-nothing, notes-assoc}
 use Rattle.spelling_reader.proofs.SoFar.{then_read, then-nothing, chain-append}

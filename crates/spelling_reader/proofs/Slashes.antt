@@ -5,8 +5,8 @@ use Rattle.std.proofs.Math.Seq.{take-add}
 use Rattle.std.proofs.lemmas.List.{get_or-drop}
 use Rattle.selector_spelling.specs.Bytes.{Bytes, slash}
 use Rattle.selector_spelling.specs.Arguments.{Slashed, Split}
-use Rattle.spelling_reader.specs.declared.fronts.Class.TheVariants.{Letter}
-use Rattle.spelling_reader.proofs.Classes.{class-low}
+use Rattle.selector_lexer.specs.declared.fronts.Class.TheVariants.{Letter}
+use Rattle.selector_lexer.proofs.Classes.{class-low}
 
 -- with a front of the body
 abbrev pub with_front : Bytes → Option Slashed → Option Slashed

@@ -10,9 +10,10 @@ use Rattle.selector_spelling.specs.Bytes.{is_empty}
 use Rattle.selector_spelling.specs.Cuts.{Item}
 use Rattle.selector_spelling.specs.Pieces.{◌>>=◌, notes_joined, nothing, both}
 use Rattle.selector_spelling.specs.Texts.{item, chain}
-use Rattle.spelling_reader.specs.declared.stop.Stop.{Stop}
-use Rattle.spelling_reader.specs.declared.stop.Stop.TheVariants as stop
-use Rattle.spelling_reader.specs.Stops.{Inner, Fails, Reads}
+use Rattle.selector_lexer.specs.declared.stop.Stop.{Stop}
+use Rattle.selector_lexer.specs.declared.stop.Stop.TheVariants as stop
+use Rattle.selector_lexer.specs.Stops.{Fails}
+use Rattle.spelling_reader.specs.Readings.{Inner, Reads}
 use Rattle.spelling_reader.specs.Chains.{items_read}
 use Rattle.spelling_reader.proofs.ReadsLaws.{notes-nothing, notes-assoc}
 

@@ -14,13 +14,14 @@ use Rattle.selector_spelling.specs.Names.{name}
 use Rattle.selector_spelling.specs.Scan.{standing, within}
 use Rattle.selector_spelling.specs.Attributes.{attribute}
 use Rattle.selector_spelling.specs.Pieces.{Piece, keep, named, attributed, piece}
-use Rattle.spelling_reader.specs.declared.stop.Stop.{Stop}
-use Rattle.spelling_reader.specs.declared.stop.Stop.TheVariants as stop
+use Rattle.selector_lexer.specs.declared.stop.Stop.{Stop}
+use Rattle.selector_lexer.specs.declared.stop.Stop.TheVariants as stop
 use Rattle.spelling_reader.specs.declared.tests_of.Named.{Named}
 use Rattle.spelling_reader.specs.declared.tests_of.Named.TheVariants as kind
 use Rattle.spelling_reader.specs.Named.{of_name, NamesTest, FailsName}
-use Rattle.spelling_reader.specs.Splits.{IsArgument}
-use Rattle.spelling_reader.specs.Stops.{Inner, Fails, ReadsTest, piece_at}
+use Rattle.selector_lexer.specs.Splits.{IsArgument}
+use Rattle.selector_lexer.specs.Stops.{Fails}
+use Rattle.spelling_reader.specs.Readings.{Inner, ReadsTest, piece_at}
 use Rattle.spelling_reader.proofs.Suffixes.{IsBehind, name-behind, count-behind, behind-sign}
 
 pub first-and-rest : (text : Bytes) → 0 < length text → text ≡ get_or text 0 0 ∷ drop 1 text

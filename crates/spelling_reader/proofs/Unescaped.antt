@@ -8,7 +8,7 @@ use Rattle.selector_spelling.specs.Arguments.{unescaped, last_is, without_last, 
 use Rattle.spelling_reader.specs.declared.texts.Marks.{Marks}
 use Rattle.spelling_reader.specs.declared.texts.Marks.TheVariants.{BeforeSlash, BeforeSigns}
 use Rattle.spelling_reader.specs.Texts.{marked, pushed}
-use Rattle.spelling_reader.proofs.Characters.{first-byte}
+use Rattle.selector_lexer.proofs.Characters.{first-byte}
 
 -- ---- dropped `\`
 

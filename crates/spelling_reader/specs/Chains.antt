@@ -10,9 +10,9 @@ use Rattle.selector_spelling.specs.Bytes.{Bytes, is_empty}
 use Rattle.selector_spelling.specs.Cuts.{Part, Item, is_sign, compounds_of, behind_signs, items_of}
 use Rattle.selector_spelling.specs.Pieces.{◌>>=◌, nothing, both}
 use Rattle.selector_spelling.specs.Texts.{item, chain}
-use Rattle.spelling_reader.specs.declared.cuts.Behind.{Behind}
-use Rattle.spelling_reader.specs.Splits.{parts_behind}
-use Rattle.spelling_reader.specs.Stops.{Inner}
+use Rattle.selector_lexer.specs.declared.cuts.Behind.{Behind}
+use Rattle.selector_lexer.specs.Splits.{parts_behind}
+use Rattle.spelling_reader.specs.Readings.{Inner}
 
 abbrev pub part_at : ℕ → Bytes → Part
 part_at at text = record { sign = 0; at = at; text = text }

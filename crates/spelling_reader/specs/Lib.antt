@@ -1,8 +1,5 @@
-pub mod Fronts
-pub mod Splits
-pub mod Letters
 pub mod Texts
-pub mod Stops
+pub mod Readings
 pub mod Named
 pub mod Searches
 pub mod Chains

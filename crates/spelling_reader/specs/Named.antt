@@ -9,8 +9,8 @@ use Rattle.selector_spelling.specs.declared.finding.Finding.TheVariants.{Malform
 use Rattle.selector_spelling.specs.Bytes.{Bytes}
 use Rattle.selector_spelling.specs.Names.{name}
 use Rattle.selector_spelling.specs.Pieces.{tag}
-use Rattle.spelling_reader.specs.declared.stop.Stop.{Stop}
-use Rattle.spelling_reader.specs.declared.stop.Stop.TheVariants.{NoMemory, Found}
+use Rattle.selector_lexer.specs.declared.stop.Stop.{Stop}
+use Rattle.selector_lexer.specs.declared.stop.Stop.TheVariants.{NoMemory, Found}
 use Rattle.spelling_reader.specs.declared.tests_of.Named.{Named}
 use Rattle.spelling_reader.specs.declared.tests_of.Named.TheVariants.{Id, Class, Tag}
 

@@ -4,10 +4,9 @@ ghost use Rattle.std.specs.Str.{str_to_ascii_lowercase};
 ghost use Rattle.selector_tree.specs.declared.selector.AttrOp.{AttrOp as Op};
 ghost use Rattle.selector_spelling.specs.Attributes.{with_equals, comparison, value as read_value, flag, compared, attribute};
 
-use crate::fronts::{begins_with, split_behind, trim, trim_start};
-use crate::names::{push_name, push_string};
-use crate::scan::is;
+use cos_source::trim_text;
 use listed::Text;
+use selector_lexer::{begins_with, is, push_name, push_string, split_behind, trim_start};
 use selector_tree::{AttrOp, Test};
 use std::alloc::{AllocError, Global};
 
@@ -95,7 +94,7 @@ fn compared(alloc: Global, name: Text, text: &str) -> Result<Option<Test>, Alloc
     let Some(rest) = push_value(&mut value, trim_start(rest))? else {
         return Ok(None);
     };
-    let Some(ignore_case) = flag(trim(rest)) else {
+    let Some(ignore_case) = flag(trim_text(rest)) else {
         return Ok(None);
     };
     Ok(Some(Test::Attr {

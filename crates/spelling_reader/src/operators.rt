@@ -1,14 +1,13 @@
 ghost use Rattle.std.specs.Prelude.{◌≡◌, ◌++◌, MatchResult, OnOk};
 ghost use Rattle.selector_tree.specs.declared.selector.Test.TheVariants as test;
 ghost use Rattle.selector_spelling.specs.Pieces.{ask, ask_each, counting, searching, measuring, matching, watching, climbing, others, action};
-ghost use Rattle.spelling_reader.specs.Stops.{Fails, Reads};
+ghost use Rattle.selector_lexer.specs.Stops.{Fails};
+ghost use Rattle.spelling_reader.specs.Readings.{Reads};
 ghost use Rattle.spelling_reader.specs.Searches.{searched_test};
 
-use crate::fronts::is_blank;
-use crate::numbers::{degree, nth, text_units};
 use crate::pairs::{attribute_pair, watched};
-use crate::stop::{Stop, bad};
 use crate::texts::{sought, text_argument};
+use selector_lexer::{Stop, bad, degree, is_blank, nth, text_units};
 use selector_spelling::{Ask, Cause, Notes, Setting};
 use selector_tree::{Arg, Chain, Step, Test};
 use std::alloc::{AllocError, Global};

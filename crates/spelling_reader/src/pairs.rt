@@ -6,9 +6,10 @@ ghost use Rattle.selector_spelling.specs.Bytes.{front, behind, slash};
 ghost use Rattle.selector_spelling.specs.Arguments.{up_to, name_part, value_part, lower_name, attribute_pair, is_watched_byte, watched_name, watched_names, is_comma, watched};
 ghost use Rattle.spelling_reader.specs.Texts.{EndsAt, parts_behind};
 
-use crate::fronts::{Class, front_length, is_blank, split_before, split_behind, trim};
 use crate::texts::{is_quote, sought, text_argument};
+use cos_source::trim_text;
 use listed::{Listed, Names, Text};
+use selector_lexer::{Class, front_length, is_blank, split_before, split_behind};
 use selector_tree::Arg;
 use std::alloc::{AllocError, Global};
 
@@ -95,7 +96,7 @@ pub(crate) struct Pair {
 pub(crate) fn attribute_pair(alloc: Global, argument: &str) -> Result<Option<Pair>, AllocError>
     ensures { IfOk result (λ pair. MatchOption pair (attribute_pair argument.now ≡ None) (λ p. attribute_pair argument.now ≡ Some (record { name = p.name; value = p.value }))) }
 {
-    let Some((name, rest)) = name_part(trim(argument)) else {
+    let Some((name, rest)) = name_part(trim_text(argument)) else {
         return Ok(None);
     };
     let Some(name) = sought(text_argument(alloc, name)?) else {
@@ -152,7 +153,7 @@ fn watched_names(alloc: Global, argument: &str) -> Result<Option<Names>, AllocEr
     let mut next = Some(argument);
     while let Some(text) = next {
         let (part, behind) = split_comma(text);
-        let Some(name) = watched_name(alloc, trim(part))? else {
+        let Some(name) = watched_name(alloc, trim_text(part))? else {
             return Ok(None);
         };
         names.push(name)?;

@@ -4,23 +4,23 @@ ghost use Rattle.selector_spelling.specs.declared.operator.Operator.{Operator as
 ghost use Rattle.selector_spelling.specs.Bytes.{colon, is_blank};
 ghost use Rattle.selector_spelling.specs.Pieces.{pseudo, pieces, by_operator, upward, without_argument_reading, pseudo_element, Piece};
 ghost use Rattle.selector_spelling.specs.Texts.{place_of, argument as the_argument, selector};
-ghost use Rattle.spelling_reader.specs.Splits.{length_behind, text_after};
-ghost use Rattle.spelling_reader.specs.Stops.{Fails, Reads, ReadsChains, ReadsPiece, piece_at};
+ghost use Rattle.selector_lexer.specs.Splits.{length_behind, text_after};
+ghost use Rattle.selector_lexer.specs.Stops.{Fails};
+ghost use Rattle.spelling_reader.specs.Readings.{Reads, ReadsChains, ReadsPiece, piece_at};
 ghost use Rattle.spelling_reader.specs.Chains.{compounds_read, signed_read, chain_read, lead};
 
-use crate::cuts::{Behind, Cut, First, argument, first_part, text_behind};
-use crate::fronts::{Class, begins_with, is_blank, split_behind, split_front, trim, trim_start};
-use crate::names::begins_name;
-use crate::numbers::is_number;
 use crate::operators::{
     Searched, note_action, push_degree, push_nth, push_others, push_pair, push_search, push_units,
     push_watch,
 };
-use crate::scan::opens;
-use crate::stop::{Stop, bad};
-use crate::tables::{operator_of, plain_of};
+use crate::tables::plain_of;
 use crate::tests_of::read_test;
+use cos_source::trim_text;
 use listed::Listed;
+use selector_lexer::{
+    Behind, Class, Cut, First, Stop, argument, bad, begins_name, begins_with, first_part, is_blank,
+    is_number, opens, operator_of, split_behind, split_front, text_behind, trim_start,
+};
 use selector_spelling::{Cause, Finding, Kind, Notes, Operator, Plain, Setting};
 use selector_tree::{Chain, Place, Selector, Step, Test};
 use sqlite_items::Boxed;
@@ -440,7 +440,7 @@ fn read_upward(
     ensures { let given = upward (the_argument levels) at from argument.now in
         MatchResult result (λ _. Reads steps.old steps.new notes.old notes.new given) (λ stop. Fails stop given) }
 {
-    let trimmed = trim(argument);
+    let trimmed = trim_text(argument);
     if is_number(trimmed.as_bytes()) {
         return push_degree(at, trimmed, steps, notes);
     }

@@ -2,10 +2,9 @@ ghost use Rattle.std.specs.Prelude.{◌≡◌, IfOk};
 ghost use Rattle.selector_spelling.specs.Texts.{selector_of};
 ghost use Rattle.spelling_reader.specs.Spelled.{spelled};
 
-use crate::cuts::{too_nested, unbalanced};
 use crate::reading::read_chains;
-use crate::stop::Stop;
 use listed::Listed;
+use selector_lexer::{Stop, too_nested, unbalanced};
 use selector_spelling::{Cause, Chains, Finding, Notes};
 use std::alloc::{AllocError, Global};
 

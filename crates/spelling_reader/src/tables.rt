@@ -1,10 +1,10 @@
 ghost use Rattle.std.specs.Prelude.{◌≡◌};
 ghost use Rattle.std.specs.Str.{str_to_ascii_lowercase};
-ghost use Rattle.selector_spelling.specs.Pieces.{plain_of, standard_of, procedural_of, aside_of, operator_of, state_names, element_names};
+ghost use Rattle.selector_spelling.specs.Pieces.{plain_of, state_names, element_names};
 ghost use Rattle.selector_spelling.specs.Bytes.{is_one_of};
 
-use crate::scan::{is, is_one_of};
-use selector_spelling::{Kind, Operator, Plain};
+use selector_lexer::{is, is_one_of};
+use selector_spelling::{Kind, Plain};
 
 fn is_state(name: &[u8]) -> bool
     ensures { result ≡ is_one_of (str_to_ascii_lowercase name.now) state_names }
@@ -88,106 +88,4 @@ pub(crate) fn plain_of(name: &[u8]) -> Option<Plain>
     } else {
         None
     }
-}
-
-fn standard_of(name: &[u8]) -> Option<Operator>
-    ensures { result ≡ standard_of (str_to_ascii_lowercase name.now) }
-{
-    if is_one_of(name, &["is", "where"]) {
-        Some(Operator::Is)
-    } else if is(name, b"not") {
-        Some(Operator::Not)
-    } else if is_one_of(name, &["has", "-abp-has"]) {
-        Some(Operator::Has)
-    } else if is(name, b"nth-child") {
-        Some(Operator::Nth {
-            from_end: false,
-            of_name: false,
-        })
-    } else if is(name, b"nth-last-child") {
-        Some(Operator::Nth {
-            from_end: true,
-            of_name: false,
-        })
-    } else if is(name, b"nth-of-type") {
-        Some(Operator::Nth {
-            from_end: false,
-            of_name: true,
-        })
-    } else if is(name, b"nth-last-of-type") {
-        Some(Operator::Nth {
-            from_end: true,
-            of_name: true,
-        })
-    } else {
-        None
-    }
-}
-
-fn procedural_of(name: &[u8]) -> Option<Operator>
-    ensures { result ≡ procedural_of (str_to_ascii_lowercase name.now) }
-{
-    if is_one_of(name, &["has-text", "-abp-contains"]) {
-        Some(Operator::HasText)
-    } else if is(name, b"min-text-length") {
-        Some(Operator::MinText)
-    } else if is(name, b"matches-path") {
-        Some(Operator::MatchesPath)
-    } else if is(name, b"matches-attr") {
-        Some(Operator::MatchesAttr)
-    } else if is(name, b"watch-attr") {
-        Some(Operator::WatchAttr)
-    } else if is(name, b"upward") {
-        Some(Operator::Upward)
-    } else if is(name, b"others") {
-        Some(Operator::Others)
-    } else if is(name, b"remove") {
-        Some(Operator::Remove)
-    } else {
-        None
-    }
-}
-
-fn aside_of(name: &[u8]) -> Option<Kind>
-    ensures { result ≡ aside_of (str_to_ascii_lowercase name.now) }
-{
-    if is_one_of(name, &["lang", "dir"]) {
-        Some(Kind::State)
-    } else if is(name, b"style") {
-        Some(Kind::Style)
-    } else if is(name, b"xpath") {
-        Some(Kind::Xpath)
-    } else if is(name, b"shadow") {
-        Some(Kind::Shadow)
-    } else if is_one_of(
-        name,
-        &["matches-css", "matches-css-before", "matches-css-after"],
-    ) {
-        Some(Kind::MatchesCss)
-    } else if is(name, b"matches-media") {
-        Some(Kind::MatchesMedia)
-    } else if is(name, b"matches-prop") {
-        Some(Kind::MatchesProp)
-    } else if is(name, b"-abp-properties") {
-        Some(Kind::AbpProperties)
-    } else if is(name, b"remove-attr") {
-        Some(Kind::RemoveAttr)
-    } else if is(name, b"remove-class") {
-        Some(Kind::RemoveClass)
-    } else {
-        None
-    }
-}
-
-/// What `:name(..)` is.
-pub(crate) fn operator_of(name: &[u8]) -> Option<Operator>
-    ensures { result ≡ operator_of (str_to_ascii_lowercase name.now) }
-{
-    if let Some(operator) = standard_of(name) {
-        return Some(operator);
-    }
-    if let Some(operator) = procedural_of(name) {
-        return Some(operator);
-    }
-    Some(Operator::Aside(aside_of(name)?))
 }

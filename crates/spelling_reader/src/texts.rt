@@ -3,9 +3,9 @@ ghost use Rattle.selector_spelling.specs.Bytes.{is_quote};
 ghost use Rattle.selector_spelling.specs.Arguments.{unquoted, holds_byte, are_flags, flags_of, closing, unescaped, pattern_form, text_argument, sought};
 ghost use Rattle.spelling_reader.specs.Texts.{marked, pushed, ClosesAt};
 
-use crate::fronts::{begins_with, split_behind, trim};
-use crate::names::split_first;
+use cos_source::trim_text;
 use listed::Text;
+use selector_lexer::{begins_with, split_behind, split_first};
 use selector_tree::Arg;
 use std::alloc::{AllocError, Global};
 
@@ -161,7 +161,7 @@ fn pattern_form(text: &str) -> Option<(&str, &[u8])>
 pub(crate) fn text_argument(alloc: Global, argument: &str) -> Result<Arg, AllocError>
     ensures { IfOk result (λ arg. arg ≡ text_argument argument.now) }
 {
-    let text = unquoted(trim(argument));
+    let text = unquoted(trim_text(argument));
     match pattern_form(text) {
         Some((body, flags)) => Ok(Arg::Pattern {
             body: unescaped(alloc, Marks::BeforeSlash, body)?,

@@ -10,14 +10,16 @@ use Rattle.selector_spelling.specs.declared.open.Open.{Open}
 use Rattle.selector_spelling.specs.declared.reading.Setting.{Setting}
 use Rattle.selector_spelling.specs.Bytes.{Bytes, begins_with, is_empty, colon, round_open}
 use Rattle.selector_spelling.specs.Names.{begins_name}
+use Rattle.selector_spelling.specs.Operators.{operator_of}
 use Rattle.selector_spelling.specs.Scan.{opens}
-use Rattle.selector_spelling.specs.Pieces.{Piece, where_closed, pseudo, without_argument_reading, operator_of}
+use Rattle.selector_spelling.specs.Pieces.{Piece, where_closed, pseudo, without_argument_reading}
 use Rattle.selector_spelling.specs.Texts.{place_of, argument, selector}
 use Rattle.cos_source.specs.Spaces.{without_first_spaces}
-use Rattle.spelling_reader.specs.declared.cuts.Behind.{Behind}
-use Rattle.spelling_reader.specs.declared.stop.Stop.{Stop}
-use Rattle.spelling_reader.specs.Splits.{length_behind, text_after, IsArgument}
-use Rattle.spelling_reader.specs.Stops.{Fails, Reads, piece_at}
+use Rattle.selector_lexer.specs.declared.cuts.Behind.{Behind}
+use Rattle.selector_lexer.specs.declared.stop.Stop.{Stop}
+use Rattle.selector_lexer.specs.Splits.{length_behind, text_after, IsArgument}
+use Rattle.selector_lexer.specs.Stops.{Fails}
+use Rattle.spelling_reader.specs.Readings.{Reads, piece_at}
 use Rattle.spelling_reader.specs.Chains.{compounds_read, signed_read, chain_read}
 use Rattle.spelling_reader.proofs.Watched.{some_left}
 use Rattle.spelling_reader.proofs.SoFar.{SoFar, so_far_start}

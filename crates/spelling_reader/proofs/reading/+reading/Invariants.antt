@@ -3,7 +3,7 @@ use denote.Text.{Utf8}
 use denote.Shadow.{shadow}
 use Rattle.selector_spelling.specs.Pieces.{pieces}
 use Rattle.selector_spelling.specs.Texts.{argument, selector}
-use Rattle.spelling_reader.specs.Splits.{length_behind}
+use Rattle.selector_lexer.specs.Splits.{length_behind}
 use Rattle.spelling_reader.specs.Chains.{compounds_read, signed_read}
 use Rattle.spelling_reader.proofs.SoFar.{SoFar}
 use Rattle.spelling_reader.proofs.SelectorLaws.{ChainsSoFar}

@@ -1,6 +1,6 @@
 use Rattle.std.proofs.Common.{refl}
 use Rattle.spelling_reader.specs.declared.tests_of.Named.TheVariants as kind
-use Rattle.spelling_reader.specs.Stops.{piece_at}
+use Rattle.spelling_reader.specs.Readings.{piece_at}
 use Rattle.spelling_reader.proofs.TestLaws.{cons-is, sign-result, start-result, square-result, hash-is, dot-is, square-is, tag-is}
 use Rattle.spelling_reader.proofs.tests_of.read_test.Goals as goal
 

@@ -1,7 +1,7 @@
 use Rattle.std.proofs.Common.{rules, sym, ap, ◌∙◌, ◌++◌, Bool}
 use Rattle.selector_spelling.specs.Arguments.{unescaped}
 use Rattle.spelling_reader.specs.Texts.{marked, pushed}
-use Rattle.spelling_reader.proofs.Characters.{shorter}
+use Rattle.selector_lexer.proofs.Characters.{shorter}
 use Rattle.spelling_reader.proofs.Unescaped.{unescaped-character, unescaped_more}
 use Rattle.spelling_reader.proofs.texts.unescaped.Goals as goal
 

@@ -1,0 +1,11 @@
+pub mod Lists
+pub mod Escapes
+pub mod Closing
+pub mod CutLaws
+pub mod Firsts
+pub mod Hexes
+pub mod Characters
+pub mod LetterLaws
+pub mod Boundaries
+pub mod Classes
+pub mod Limits

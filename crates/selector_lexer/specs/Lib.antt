@@ -1,0 +1,4 @@
+pub mod Fronts
+pub mod Splits
+pub mod Letters
+pub mod Stops

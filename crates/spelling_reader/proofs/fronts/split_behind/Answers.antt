@@ -1,5 +1,0 @@
-use Rattle.spelling_reader.proofs.Boundaries.{behind_ascii}
-use Rattle.spelling_reader.proofs.fronts.split_behind.Goals as goal
-
-pub split_at-requires : goal.split_at-requires
-split_at-requires c = behind_ascii c.args.text.now c.args.n c.utf8.text c.requires.most c.requires.last
