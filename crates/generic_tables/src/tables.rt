@@ -12,7 +12,7 @@ use crate::carried::keys_at;
 use crate::filed::Filed;
 use crate::keys::Key;
 use dom_arena::Dom;
-use procedural_ops::next_element;
+use selector_match::next_element;
 use std::alloc::{AllocError, Global};
 
 /// The elements of a page by the keys that they carry.

@@ -10,6 +10,7 @@ use crate::filter_set::FilterSet;
 use cos_outside::Steps;
 use kept_marks::Marks;
 use mutation_script::PageState;
+use procedural_ops::MatchingContext;
 use retest::{Asking, Pending, retest, start};
 use std::alloc::{AllocError, Global};
 use std::sync::ledger::Ledger;
@@ -33,14 +34,17 @@ pub(crate) fn ask_again<L: Ledger, P: Ledger>(
     ensures same { IfOk result (λ changed. changed ≡ false → IsSame marks.old marks.new) }
 {
     let asking = Asking {
-        dom: &page.tree,
-        path: page.path.as_str(),
-        table: &filters.table,
+        context: MatchingContext {
+            alloc,
+            dom: &page.tree,
+            path: page.path.as_str(),
+            table: &filters.table,
+        },
         active: &filters.active,
         keyed: &filters.keyed,
         groups: filters.groups.numbers.as_slice(),
     };
-    retest(alloc, &asking, pending, marks, checks, parts)
+    retest(&asking, pending, marks, checks, parts)
 }
 
 /// The marks of a page: each filter is asked of the elements that carry a key of it.
@@ -57,12 +61,15 @@ pub(crate) fn ask_everything<L: Ledger, P: Ledger>(
     ensures parts { IsPriced (price filters.now.active page.now.tree) checks.old checks.new parts.old parts.new }
 {
     let asking = Asking {
-        dom: &page.tree,
-        path: page.path.as_str(),
-        table: &filters.table,
+        context: MatchingContext {
+            alloc,
+            dom: &page.tree,
+            path: page.path.as_str(),
+            table: &filters.table,
+        },
         active: &filters.active,
         keyed: &filters.keyed,
         groups: filters.groups.numbers.as_slice(),
     };
-    start(alloc, &asking, checks, parts)
+    start(&asking, checks, parts)
 }

@@ -18,9 +18,8 @@ use dom_arena::Dom;
 use kept_marks::Marks;
 use listed::{Numbers, Text};
 use mutation_script::PageState;
-use procedural_ops::next_element;
 use retest::Pending;
-use selector_match::parent;
+use selector_match::{next_element, parent};
 use selector_tree::{Action, Active, Taken, TakenList};
 use std::alloc::{AllocError, Global};
 

@@ -12,7 +12,7 @@ ghost use Rattle.hide_engine.specs.Chosen.{acts_at, chosen, acting_rows};
 use kept_marks::Marks;
 use listed::Numbers;
 use mutation_script::PageState;
-use procedural_ops::next_element;
+use selector_match::next_element;
 use selector_tree::{Action, Active, HiddenRow, Rows};
 use std::alloc::{AllocError, Global};
 

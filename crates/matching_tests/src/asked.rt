@@ -6,8 +6,9 @@ ghost use Rattle.procedural_ops.specs.Told.{selector_at};
 use cos_outside::Steps;
 use cos_patterns::{CrateMaker, PatternTable};
 use dom_arena::Dom;
-use listed::Text;
-use procedural_ops::test;
+use listed::{Numbers, Text};
+use procedural_ops::{MatchingContext, test};
+use remembered::Members;
 use selector_match::is_element;
 use selector_parser::{Read, read_selector};
 use selector_tree::{Action, Active, Filter};
@@ -59,16 +60,68 @@ pub(crate) fn is_selected<L: Ledger, P: Ledger>(
         return Err(Fail::from("no element"));
     }
     let (table, active) = filter(alloc, text.as_str())?;
-    let verdict = test(
+    let context = MatchingContext {
         alloc,
         dom,
-        "/",
-        &table,
+        path: "/",
+        table: &table,
+    };
+    let mut members = Members::new(alloc);
+    let verdict = test(
+        &context,
         &active,
         0,
         x,
+        &mut members,
         &mut checks,
         &mut parts,
     )?;
     Ok(verdict.yes() && verdict.element() == x && verdict.filter() == 0)
+}
+
+/// The elements from 1 to the last of a page that the filter of a text selects, asked one after another with one memory.
+pub(crate) fn all_selected<L: Ledger, P: Ledger>(
+    alloc: Global,
+    dom: &Dom,
+    text: &str,
+    last: u32,
+    checks: Blank,
+    parts: Blank,
+) -> Result<Numbers, Fail>
+    requires checks_name { checks.name ≡ L.name }
+    requires checks_parts { checks.parts ≡ L.parts }
+    requires checks_some { 0 < checks.parts }
+    requires parts_name { parts.name ≡ P.name }
+    requires parts_parts { parts.parts ≡ P.parts }
+    requires parts_some { 0 < parts.parts }
+{
+    let mut checks = Steps::<L>::new(checks);
+    let mut parts = Steps::<P>::new(parts);
+    let (table, active) = filter(alloc, text)?;
+    let context = MatchingContext {
+        alloc,
+        dom,
+        path: "/",
+        table: &table,
+    };
+    let mut members = Members::new(alloc);
+    let mut found = Numbers::new(alloc);
+    for x in 1..=last {
+        if !is_element(dom, x) {
+            continue;
+        }
+        let verdict = test(
+            &context,
+            &active,
+            0,
+            x,
+            &mut members,
+            &mut checks,
+            &mut parts,
+        )?;
+        if verdict.yes() {
+            found.push(x)?;
+        }
+    }
+    Ok(found)
 }

@@ -101,6 +101,32 @@ fn many_siblings_are_gone_through(rt: HostRuntime) -> Result<(), Fail> {
 }
 
 #[test]
+fn many_later_siblings_are_gone_through(rt: HostRuntime) -> Result<(), Fail> {
+    let alloc = rt.alloc();
+    let dom = page(alloc, "<b class=x></b>", 2_000, "")?;
+    for (front, part, count, end, expected) in [
+        (".x:has(~ .x", " ~ .x", 2, " ~ .y)", false),
+        (".x:has(~ .x", " ~ .x", 20, " ~ .y)", false),
+        (".x:has(~ .x", " ~ .x", 20, ")", true),
+        (".x:has(~ .x", " + .x ~ .x", 10, " ~ .y)", false),
+        (".x:has(~ .x", " + .x ~ .x", 10, ")", true),
+        (".x:has(+ .x", " ~ .x + .x", 10, " ~ .y)", false),
+    ] {
+        let filter = repeated(alloc, front, part, count, end)?;
+        let selected = is_selected::<Brand, Brand>(
+            alloc,
+            &dom,
+            &filter,
+            1,
+            Blank::new(1),
+            Blank::new(1),
+        )?;
+        assert_eq!(rt; selected, expected, "{}", filter.as_str());
+    }
+    Ok(())
+}
+
+#[test]
 fn nested_selectors_are_answered(rt: HostRuntime) -> Result<(), Fail> {
     let alloc = rt.alloc();
     let dom = page(alloc, "<i class=x>", 510, "")?;
@@ -172,6 +198,31 @@ fn a_long_text_is_looked_through(rt: HostRuntime) -> Result<(), Fail> {
             Blank::new(1),
         )?;
         assert_eq!(rt; selected, expected, "{}", filter.as_str());
+    }
+    Ok(())
+}
+
+#[test]
+fn many_short_texts_are_looked_through(rt: HostRuntime) -> Result<(), Fail> {
+    let alloc = rt.alloc();
+    let source = repeated(alloc, "<div>", "<i>a</i>", 30_000, "<i>b</i>")?;
+    let dom = read_page(alloc, source.as_str())?;
+    for (count, end, expected) in [
+        (20_000, "b)", true),
+        (30_000, "b)", true),
+        (30_001, "b)", false),
+        (20_000, "c)", false),
+    ] {
+        let filter = repeated(alloc, "*:has-text(", "a", count, end)?;
+        let selected = is_selected::<Brand, Brand>(
+            alloc,
+            &dom,
+            &filter,
+            1,
+            Blank::new(1),
+            Blank::new(1),
+        )?;
+        assert_eq!(rt; selected, expected, "{count} and {end}");
     }
     Ok(())
 }

@@ -9,4 +9,6 @@ mod asked;
 #[cfg(test)]
 mod bad_input;
 #[cfg(test)]
+mod literals;
+#[cfg(test)]
 mod small_page;

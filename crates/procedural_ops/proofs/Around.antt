@@ -12,12 +12,13 @@ use Rattle.page_tree.specs.Trees.{IsTree}
 use Rattle.selector_tree.specs.declared.selector.Place.TheVariants.{Descendant}
 use Rattle.selector_tree.specs.declared.selector.Step.{Step}
 use Rattle.selector_meaning.specs.Texts.{Bytes}
-use Rattle.selector_meaning.specs.Meaning.{is_other, is_apart, is_beside, is_shown}
+use Rattle.selector_meaning.specs.Meaning.{is_other, is_apart, is_beside, is_shown, parent}
+use Rattle.procedural_ops.specs.Others.{leads_below}
 use Rattle.selector_match.specs.Asked.{IsElement}
 use Rattle.selector_match.proofs.Beside.{not_document}
 use Rattle.procedural_ops.specs.Reaching.{reached}
 use Rattle.procedural_ops.specs.Search.{some_target}
-use Rattle.procedural_ops.specs.Walks.{targets}
+use Rattle.selector_match.specs.Walks.{targets}
 use Rattle.procedural_ops.proofs.Any.{same_by_iff, any-made, any-found}
 use Rattle.procedural_ops.proofs.Chains.{beside_element}
 use Rattle.procedural_ops.proofs.Duals.{is_in-targets}
@@ -119,15 +120,20 @@ module _ (t : Tree) (tree : IsTree t) (path : Bytes) (before : List Step) (x : �
   pub hit_below : some_target t Descendant Reached x ≡ true → false ≡ is_other t (reached t path before) x
   hit_below h = hit (hits_around ∙ or_right (list_any Reached (x ∷ above t x)) (list_any Reached (targets t Descendant x)) h)
 
+  -- whether something is below the parent, in the words of what is remembered
+  pub below_parent : (p : ℕ) (ps : List ℕ) → IsElement t p → above t x ≡ p ∷ ps → some_target t Descendant Reached p ≡ leads_below t path before (parent t x)
+  unfolding leads_below
+  below_parent p ps p_is e = sym (beside_below p ps p_is e)
+
+  pub below_document : above t x ≡ [] → list_any Reached (all t) ≡ leads_below t path before (parent t x)
+  unfolding leads_below
+  below_document e = sym (beside_all e)
+
+  -- nothing around x is reached: then that says it all
   module _ (high : list_any Reached (x ∷ above t x) ≡ false) (low : some_target t Descendant Reached x ≡ false) (shown : is_shown t x ≡ true) where
-    missed : list_any Beside (all t) ≡ is_other t (reached t path before) x
-    missed =
+    pub beside_is_other : leads_below t path before (parent t x) ≡ is_other t (reached t path before) x
+    unfolding leads_below
+    beside_is_other =
         sym (others_by t path before x
         ∙ ap (λ b. not b && list_any Beside (all t) && is_shown t x) (hits_around ∙ ap (λ b. b || list_any Reached (targets t Descendant x)) high ∙ low)
         ∙ ap (λ b. list_any Beside (all t) && b) shown ∙ bool.and-true (list_any Beside (all t)))
-
-    pub other_below : (p : ℕ) (ps : List ℕ) → IsElement t p → above t x ≡ p ∷ ps → some_target t Descendant Reached p ≡ is_other t (reached t path before) x
-    other_below p ps p_is e = sym (beside_below p ps p_is e) ∙ missed
-
-    pub other_on_top : above t x ≡ [] → list_any Reached (all t) ≡ is_other t (reached t path before) x
-    other_on_top e = sym (beside_all e) ∙ missed

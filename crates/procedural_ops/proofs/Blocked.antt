@@ -20,7 +20,7 @@ use Rattle.selector_meaning.specs.Meaning.{is_there}
 use Rattle.selector_match.specs.Asked.{IsElement}
 use Rattle.proper_filters.specs.Proper.{is_inner, are_inner, is_inner_selector}
 use Rattle.procedural_ops.specs.Reaching.{leads_from, some_leads}
-use Rattle.procedural_ops.specs.Walks.{targets}
+use Rattle.selector_match.specs.Walks.{targets}
 use Rattle.procedural_ops.specs.Blocked.{Blocks, BeginsBelow, KeepsBelow, LooksBelow}
 use Rattle.procedural_ops.specs.Count.{asks, asks_at, is_plain_step, is_plain_step_at}
 use Rattle.procedural_ops.specs.Runs.{is_keep, keeps, single_keeps}

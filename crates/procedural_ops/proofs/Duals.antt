@@ -17,8 +17,8 @@ use Rattle.page_tree.proofs.Sides.{next_side, previous_side}
 use Rattle.selector_meaning.specs.Meaning.{is_there}
 use Rattle.selector_match.specs.Asked.{IsElement, below}
 use Rattle.selector_match.proofs.Beside.{not_document, some_same}
-use Rattle.procedural_ops.specs.Walks.{after_in, elements_behind, targets}
-use Rattle.procedural_ops.proofs.Any.{same_by_iff}
+use Rattle.selector_match.specs.Walks.{after_in, elements_behind, targets}
+use Rattle.procedural_ops.proofs.Any.{same_by_iff, alone}
 
 -- ---- rows that lead on and back, one step at a time
 
@@ -150,6 +150,28 @@ module _ (t : Tree) (tree : IsTree t) where
       same_by_iff (is_in (later x) z) (is_in (all t) z && is_in (earlier z) x)
       (λ h. let r = turned (IsElement t) later earlier go_later go_earlier (later x) x z x_is refl h in and_from (is_in (all t) z) (is_in (earlier z) x) r.0 r.1)
       (λ h. let p = and_parts (is_in (all t) z) (is_in (earlier z) x) h in (turned (IsElement t) earlier later go_earlier go_later (earlier z) z x p.0 refl p.1).1)
+
+  -- later than what is later
+  pub later_still : (x z w : ℕ) → IsElement t x → IsElement t z → is_in (later x) z ≡ true → is_in (later z) w ≡ true → is_in (later x) w ≡ true
+  later_still x z w x_is z_is h i =
+      let p = and_parts (is_in (all t) z) (is_in (earlier z) x) (sym (after_turned x z x_is) ∙ h) in
+      let q = and_parts (is_in (all t) w) (is_in (earlier w) z) (sym (after_turned z w z_is) ∙ i) in
+      after_turned x w x_is
+      ∙ and_from (is_in (all t) w) (is_in (earlier w) x) q.0 (further (IsElement t) later earlier go_later go_earlier (earlier w) w z x q.0 refl q.1 p.1)
+
+  -- what is later than a later one is later than the next one
+  pub later_next : (x z n w : ℕ) → IsElement t x → IsElement t z → is_in (later x) z ≡ true → is_in (take 1 (later x)) n ≡ true → is_in (later z) w ≡ true → is_in (later n) w ≡ true
+  later_next x z n w x_is z_is h i j =
+      elim (go_later x x_is) [
+        | inl none ↦ absurd (both_ways false refl (sym (ap (λ (l : List ℕ). is_in l z) none) ∙ h))
+        | inr r ↦
+            let same : r.0 ≡ n = alone r.0 n (sym (ap (λ (l : List ℕ). is_in (take 1 l) n) r.2) ∙ i) in
+            subst (λ (k : ℕ). is_in (later k) w ≡ true) same
+            (elim (or_cases (r.0 == z) (is_in (later r.0) z) (sym (ap (λ (l : List ℕ). is_in l z) r.2) ∙ h)) [
+              | inl q ↦ ap (λ (k : ℕ). is_in (later k) w) (eqb-true r.0 z q) ∙ j
+              | inr q ↦ later_still r.0 z w r.1 z_is q j
+            ])
+      ]
 
   pub next_turned : (x z : ℕ) → IsElement t x → head_is (later x) z ≡ (is_in (all t) z && head_is (earlier z) x)
   next_turned x z x_is =

@@ -1,6 +1,6 @@
 -- Examples that compute.
 use Rattle.std.proofs.Common.{◌≡◌, [], ◌∷◌, refl}
-use Rattle.procedural_ops.specs.Walks.{after_in}
+use Rattle.selector_match.specs.Walks.{after_in}
 
 behind : after_in 2 (1 ∷ 2 ∷ 3 ∷ 4 ∷ []) ≡ 3 ∷ 4 ∷ []
 behind = refl

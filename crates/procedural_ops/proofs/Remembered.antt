@@ -12,7 +12,9 @@ use Rattle.page_tree.specs.Directions.{is_in}
 use Rattle.cos_patterns.specs.Found.{pattern_found}
 use Rattle.selector_meaning.specs.Texts.{Bytes}
 use Rattle.selector_meaning.specs.Meaning.{holds}
-use Rattle.procedural_ops.specs.Noted.{chain_tests, chain_cells, many_single, IsPart, answer_at, Notes, missing, unknown, IsRight}
+use Rattle.procedural_ops.specs.Noted.{chain_tests, chain_cells, many_single, IsPart, missing, unknown, IsRight}
+use Rattle.remembered.specs.Noted.{answer_at, Notes}
+use Rattle.remembered.proofs.Blank.{nothing_at}
 use Rattle.selector_match.specs.Kinds.{is_single}
 use Rattle.procedural_ops.specs.Count.{many_passing}
 use Rattle.procedural_ops.proofs.Parts.{chain_single_tests}
@@ -146,19 +148,6 @@ over old mid new k x b d one two = record {
 }
 
 -- ---- no answers
-
--- so many columns without answers
-abbrev pub blanks : ℕ → List (List (ℕ × Bool))
-blanks many = replicate many []
-
-nothing_at : (many k : ℕ) → get_or (blanks many) k [] ≡ []
-nothing_at zero k = refl
-nothing_at (suc many) zero = refl
-nothing_at (suc many) (suc k) = nothing_at many k
-
-pub one_blank : (many : ℕ) → blanks many ++ ([] ∷ []) ≡ blanks (suc many)
-one_blank zero = refl
-one_blank (suc many) = ap (λ (l : List (List (ℕ × Bool))). [] ∷ l) (one_blank many)
 
 pub none_right : (t : Tree) (steps : List Step) (path : Bytes) (many : ℕ) → many ≡ length (chain_cells steps) → IsRight t steps (replicate many []) path
 none_right t steps path many e = record {

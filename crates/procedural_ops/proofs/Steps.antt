@@ -28,7 +28,7 @@ use Rattle.selector_match.proofs.Beside.{is_there-sources}
 use Rattle.proper_filters.specs.Proper.{are_inner}
 use Rattle.procedural_ops.specs.Reaching.{meaning, chain_meaning, reached, leads_from, chain_gives, some_gives, some_leads, is_selected, goes_up, goes_up_at, first_up_of, lifted, lifted_at}
 use Rattle.procedural_ops.specs.Search.{some_source, some_target, some_lifted}
-use Rattle.procedural_ops.specs.Walks.{elements_behind, targets}
+use Rattle.selector_match.specs.Walks.{elements_behind, targets}
 use Rattle.procedural_ops.proofs.Any.{same_by_iff, any-made, any-found, any-same_members, any-within, all-any, any-map}
 use Rattle.procedural_ops.proofs.Linear.{reached_elements, reached-last, leads-first}
 use Rattle.procedural_ops.proofs.Duals.{is_in-targets, is_in-below}

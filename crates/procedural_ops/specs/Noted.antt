@@ -15,6 +15,7 @@ use Rattle.cos_patterns.specs.Found.{pattern_found}
 use Rattle.selector_meaning.specs.Texts.{Bytes}
 use Rattle.selector_meaning.specs.Meaning.{holds}
 use Rattle.selector_match.specs.Kinds.{is_single}
+use Rattle.remembered.specs.Noted.{answer_at}
 use Rattle.procedural_ops.specs.Count.{many_passing}
 use Rattle.procedural_ops.specs.Runs.{is_nested}
 
@@ -130,15 +131,6 @@ pub record IsPart (tests : List Test) (first : ℕ) (part : List Test) : Type 0 
   pub behind : List Test
   pub is : tests ≡ before ++ (part ++ behind)
   pub long : length before ≡ first
-
--- the answer that is remembered for the test at a place and an element
-abbrev pub answer_at : List (List (ℕ × Bool)) → ℕ → ℕ → Option Bool
-answer_at notes place x = lookup (nat_eq x) (slice_index_or notes place [])
-
--- one more answer is remembered
-pub record Notes (old new : List (List (ℕ × Bool))) (place x : ℕ) (answer : Bool) : Type 0 where
-  pub long : length new ≡ length old
-  pub answers : (k z : ℕ) → answer_at new k z ≡ cond ((place == k) && (x == z)) (Some answer) (answer_at old k z)
 
 -- how many answers of elements are missing for those of some tests that have no selector in them; the first stands at a place
 abbrev pub missing : (ℕ → ℕ → Option Bool) → List ℕ → List Test → ℕ → ℕ

@@ -8,7 +8,7 @@ use Rattle.selector_meaning.specs.Texts.{Bytes}
 use Rattle.selector_meaning.specs.Meaning.{option_is}
 use Rattle.selector_match.specs.Asked.{below, near, sources}
 use Rattle.procedural_ops.specs.Reaching.{lifted}
-use Rattle.procedural_ops.specs.Walks.{elements_behind, targets}
+use Rattle.selector_match.specs.Walks.{elements_behind, targets}
 
 module _ (t : Tree) where
   -- an element from which the combinator leads to x passes

@@ -5,9 +5,9 @@ ghost use Rattle.selector_meaning.specs.Meaning.{is_other};
 ghost use Rattle.selector_match.specs.Asked.{IsElement};
 
 use crate::places::{is_apart, is_near_now, is_shown};
-use crate::walks::next_element;
 use dom_arena::Dom;
 use listed::Numbers;
+use selector_match::next_element;
 use std::alloc::{AllocError, Global};
 
 /// The elements to which `:others()` leads from some elements, in document order.

@@ -12,9 +12,9 @@ ghost use Rattle.procedural_ops.specs.Runs.{cost_keeps, single_keeps};
 
 use crate::count::behind_step;
 use crate::inquiry::Inquiry;
-use crate::notes::Noted;
 use crate::runs::{Cost, has_cost};
 use cos_outside::Steps;
+use remembered::Noted;
 use selector_match::holds;
 use selector_tree::{Step, Test};
 use std::alloc::AllocError;

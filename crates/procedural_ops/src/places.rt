@@ -1,8 +1,7 @@
 //! Steps that go up, and where elements stand to one another.
-ghost use Rattle.std.specs.Prelude.{◌≡◌, ◌≤◌, ◌||◌, ◌&&◌, true, length, All, IfSome, IsSomeAnd};
-ghost use Rattle.procedural_ops.specs.Count.{asks};
+ghost use Rattle.std.specs.Prelude.{◌≡◌, ◌≤◌, ◌||◌, ◌&&◌, true, length, take, drop, All, IfSome, IsSomeAnd};
 ghost use Rattle.page_tree.specs.Directions.{is_in};
-ghost use Rattle.procedural_ops.specs.Blocked.{BeginsBelow, TestBelow, HasBelow, KeepsBelow, LooksBelow};
+ghost use Rattle.procedural_ops.specs.Blocked.{BeginsBelow, TestBelow, KeepsBelow, LooksBelow, LooksLater, is_level};
 ghost use Rattle.page_tree.specs.Standings.{above};
 ghost use Rattle.selector_meaning.specs.Meaning.{ancestor, is_apart, is_beside, is_shown};
 ghost use Rattle.selector_match.specs.Asked.{IsElement};
@@ -89,7 +88,7 @@ pub(crate) fn is_near_now(dom: &Dom, near: bool, reached: bool, y: u32, x: u32) 
 }
 
 /// Whether an element has none of the names that `:others()` leaves out.
-pub(crate) fn is_shown(dom: &Dom, x: u32) -> bool
+pub fn is_shown(dom: &Dom, x: u32) -> bool
     ensures { result ≡ is_shown dom.now x }
 {
     dom.is_tree();
@@ -131,6 +130,30 @@ pub(crate) fn looks_below(run: &[Step], rest: &[Step]) -> bool
     rest.is_empty() || begins_below(rest)
 }
 
+/// How many steps stand before the first that is neither a test nor a `+`, where that is a `~` and the steps are asked of
+/// siblings, one after another.
+pub(crate) fn looks_later(place: Place, steps: &[Step]) -> Option<usize>
+    ensures level { IfSome result (λ n. is_level place ≡ true) }
+    ensures within { IfSome result (λ n. n ≤ length steps.now) }
+    ensures later { IfSome result (λ n. LooksLater (take n steps.now) (drop n steps.now)) }
+{
+    if place == Place::Descendant {
+        return None;
+    }
+    for (i, step) in steps.iter().enumerate() {
+        match step {
+            Step::Keep(_) => (),
+            Step::Move(way) => match way {
+                Place::Next => (),
+                Place::After => return Some(i),
+                Place::Child | Place::Descendant => return None,
+            },
+            _ => return None,
+        }
+    }
+    None
+}
+
 fn all_keep_below(run: &[Step]) -> bool
     ensures { result ≡ true → All KeepsBelow run.now }
 {
@@ -145,26 +168,8 @@ fn all_keep_below(run: &[Step]) -> bool
 fn keeps_below(step: &Step) -> bool
     ensures { result ≡ true → KeepsBelow step.now }
 {
-    if asks(step) {
-        return true;
-    }
-    is_has_below(step)
-}
-
-fn asks(step: &Step) -> bool
-    ensures { result ≡ asks step.now }
-{
     match step {
-        Step::Keep(test) => is_single(test),
-        _ => false,
-    }
-}
-
-fn is_has_below(step: &Step) -> bool
-    ensures { result ≡ true → HasBelow step.now }
-{
-    match step {
-        Step::Keep(test) => is_test_below(test),
+        Step::Keep(test) => is_single(test) || is_test_below(test),
         _ => false,
     }
 }

@@ -11,12 +11,11 @@ ghost use Rattle.procedural_ops.specs.Reaching.{reached};
 ghost use Rattle.procedural_ops.specs.Standing.{StandsAt, GoesOn, is_open_at, remaining_at};
 
 use crate::climb::{Climb, advance, descend, retreat, start};
+use crate::context::MatchingContext;
 use crate::runs::{is_single, run_start, singles_hold};
 use cos_outside::Steps;
-use cos_patterns::PatternTable;
-use dom_arena::Dom;
 use selector_tree::Step;
-use std::alloc::{AllocError, Global};
+use std::alloc::AllocError;
 use std::sync::ledger::Ledger;
 
 /// Whether each step moves by a combinator, or keeps by a test without selectors in it.
@@ -46,24 +45,21 @@ fn is_plain_step(step: &Step) -> bool
 /// It climbs from the element, and goes back to two points alone: so it asks each test of the chain at most once of an
 /// element.
 pub(crate) fn is_reached<P: Ledger>(
-    alloc: Global,
-    dom: &Dom,
-    path: &str,
-    table: &PatternTable,
+    context: &MatchingContext<'_>,
     steps: &[Step],
     x: u32,
     parts: &mut Steps<P>,
 ) -> Result<bool, AllocError>
-    requires element { IsElement dom.now x }
-    requires proper { are_own table.now.patterns steps.now ≡ true }
+    requires element { IsElement context.now.dom.now x }
+    requires proper { are_own context.now.table.now.patterns steps.now ≡ true }
     requires plain { list_all is_plain_step steps.now ≡ true }
-    ensures answer { IfOk result (λ answer. answer ≡ is_in (reached dom.now path.now steps.now) x) }
-    ensures asked { parts.new ≤ parts.old + many_asked steps.now * length (all dom.now) }
+    ensures answer { IfOk result (λ answer. answer ≡ is_in (reached context.now.dom.now context.now.path.now steps.now) x) }
+    ensures asked { parts.new ≤ parts.old + many_asked steps.now * length (all context.now.dom.now) }
 {
-    dom.is_tree();
+    context.dom.is_tree();
     let mut climb = start(steps.len(), x);
     'climb: while climb.here.left > 0 {
-        match turn(alloc, dom, path, table, steps, &climb, parts)? {
+        match turn(context, steps, &climb, parts)? {
             None => return Ok(false),
             Some(next) => climb = next,
         }
@@ -73,38 +69,35 @@ pub(crate) fn is_reached<P: Ledger>(
 
 /// One turn of the search: the combinator or the run of tests that ends the steps left is asked of where the search stands.
 fn turn<P: Ledger>(
-    alloc: Global,
-    dom: &Dom,
-    path: &str,
-    table: &PatternTable,
+    context: &MatchingContext<'_>,
     steps: &[Step],
     climb: &Climb,
     parts: &mut Steps<P>,
 ) -> Result<Option<Climb>, AllocError>
-    requires stands { StandsAt dom.now path.now steps.now climb.now }
+    requires stands { StandsAt context.now.dom.now context.now.path.now steps.now climb.now }
     requires some { 0 < climb.now.here.left }
-    requires proper { are_own table.now.patterns steps.now ≡ true }
+    requires proper { are_own context.now.table.now.patterns steps.now ≡ true }
     requires plain { list_all is_plain_step steps.now ≡ true }
-    requires level { IsLevelAt dom.now steps.now climb.now }
-    ensures once { IfOk result (GoesFurther dom.now steps.now climb.now) }
-    ensures goes { IfOk result (GoesOn dom.now path.now steps.now (is_open_at dom.now path.now steps.now climb.now) (remaining_at dom.now path.now steps.now climb.now)) }
-    ensures asked { IfOk result (λ next. parts.new + unasked_in dom.now steps.now next ≤ parts.old + unasked dom.now steps.now climb.now) }
-    ensures few { parts.new ≤ parts.old + unasked dom.now steps.now climb.now }
+    requires level { IsLevelAt context.now.dom.now steps.now climb.now }
+    ensures once { IfOk result (GoesFurther context.now.dom.now steps.now climb.now) }
+    ensures goes { IfOk result (GoesOn context.now.dom.now context.now.path.now steps.now (is_open_at context.now.dom.now context.now.path.now steps.now climb.now) (remaining_at context.now.dom.now context.now.path.now steps.now climb.now)) }
+    ensures asked { IfOk result (λ next. parts.new + unasked_in context.now.dom.now steps.now next ≤ parts.old + unasked context.now.dom.now steps.now climb.now) }
+    ensures few { parts.new ≤ parts.old + unasked context.now.dom.now steps.now climb.now }
 {
-    dom.is_tree();
+    context.dom.is_tree();
     let left = climb.here.left - 1;
     let last = &steps[left];
     match last {
         Step::Keep(_) => {
             let first = run_start(&steps[..left]);
             let run = &steps[first..climb.here.left];
-            if singles_hold(alloc, dom, path, table, run, climb.here.at, parts)? {
+            if singles_hold(context, run, climb.here.at, parts)? {
                 Ok(Some(descend(climb, first)))
             } else {
-                Ok(retreat(dom, climb))
+                Ok(retreat(context.dom, climb))
             }
         }
-        Step::Move(place) => Ok(advance(dom, climb, *place)),
+        Step::Move(place) => Ok(advance(context.dom, climb, *place)),
         _ => unreachable!(),
     }
 }

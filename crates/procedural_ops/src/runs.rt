@@ -7,12 +7,11 @@ ghost use Rattle.selector_match.specs.Kinds.{is_single};
 ghost use Rattle.procedural_ops.specs.Count.{costs, many_asked, many_costing};
 ghost use Rattle.procedural_ops.specs.Runs.{is_keep, is_nested, cost_of, is_cost, cost_keeps, single_keeps};
 
+use crate::context::MatchingContext;
 use cos_outside::Steps;
-use cos_patterns::PatternTable;
-use dom_arena::Dom;
 use selector_match::{holds, is_plain};
 use selector_tree::{Arg, Step, Test};
-use std::alloc::{AllocError, Global};
+use std::alloc::AllocError;
 use std::sync::ledger::Ledger;
 
 /// What a test without selectors in it looks at, the cheapest first.
@@ -121,29 +120,26 @@ pub(crate) fn run_length(steps: &[Step]) -> usize
 /// Whether all tests of a run hold for an element, those aside that have selectors in them; the cheapest are asked first,
 /// and each at most once.
 pub(crate) fn singles_hold<P: Ledger>(
-    alloc: Global,
-    dom: &Dom,
-    path: &str,
-    table: &PatternTable,
+    context: &MatchingContext<'_>,
     run: &[Step],
     x: u32,
     parts: &mut Steps<P>,
 ) -> Result<bool, AllocError>
-    requires element { IsElement dom.now x }
-    requires proper { are_own table.now.patterns run.now ≡ true }
-    ensures answer { IfOk result (λ answer. answer ≡ list_all (single_keeps dom.now path.now x) run.now) }
+    requires element { IsElement context.now.dom.now x }
+    requires proper { are_own context.now.table.now.patterns run.now ≡ true }
+    ensures answer { IfOk result (λ answer. answer ≡ list_all (single_keeps context.now.dom.now context.now.path.now x) run.now) }
     ensures asked { parts.new ≤ parts.old + many_asked run.now }
 {
-    if !all_of_cost(alloc, dom, path, table, run, Cost::Names, x, parts)? {
+    if !all_of_cost(context, run, Cost::Names, x, parts)? {
         return Ok(false);
     }
-    if !all_of_cost(alloc, dom, path, table, run, Cost::Places, x, parts)? {
+    if !all_of_cost(context, run, Cost::Places, x, parts)? {
         return Ok(false);
     }
-    if !all_of_cost(alloc, dom, path, table, run, Cost::Texts, x, parts)? {
+    if !all_of_cost(context, run, Cost::Texts, x, parts)? {
         return Ok(false);
     }
-    if !all_of_cost(alloc, dom, path, table, run, Cost::Patterns, x, parts)? {
+    if !all_of_cost(context, run, Cost::Patterns, x, parts)? {
         return Ok(false);
     }
     Ok(true)
@@ -151,22 +147,19 @@ pub(crate) fn singles_hold<P: Ledger>(
 
 // Whether those tests of a run hold that cost so much.
 fn all_of_cost<P: Ledger>(
-    alloc: Global,
-    dom: &Dom,
-    path: &str,
-    table: &PatternTable,
+    context: &MatchingContext<'_>,
     run: &[Step],
     cost: Cost,
     x: u32,
     parts: &mut Steps<P>,
 ) -> Result<bool, AllocError>
-    requires element { IsElement dom.now x }
-    requires proper { are_own table.now.patterns run.now ≡ true }
-    ensures answer { IfOk result (λ answer. answer ≡ list_all (cost_keeps dom.now path.now cost x) run.now) }
+    requires element { IsElement context.now.dom.now x }
+    requires proper { are_own context.now.table.now.patterns run.now ≡ true }
+    ensures answer { IfOk result (λ answer. answer ≡ list_all (cost_keeps context.now.dom.now context.now.path.now cost x) run.now) }
     ensures asked { parts.new ≤ parts.old + many_costing cost run.now }
 {
     for step in run {
-        if !step_keeps(alloc, dom, path, table, step, cost, x, parts)? {
+        if !step_keeps(context, step, cost, x, parts)? {
             return Ok(false);
         }
     }
@@ -175,24 +168,29 @@ fn all_of_cost<P: Ledger>(
 
 // Whether a step keeps an element, where it keeps by a test that costs so much.
 fn step_keeps<P: Ledger>(
-    alloc: Global,
-    dom: &Dom,
-    path: &str,
-    table: &PatternTable,
+    context: &MatchingContext<'_>,
     step: &Step,
     cost: Cost,
     x: u32,
     parts: &mut Steps<P>,
 ) -> Result<bool, AllocError>
-    requires element { IsElement dom.now x }
-    requires proper { is_own table.now.patterns step.now ≡ true }
-    ensures answer { IfOk result (λ answer. answer ≡ cost_keeps dom.now path.now cost x step.now) }
+    requires element { IsElement context.now.dom.now x }
+    requires proper { is_own context.now.table.now.patterns step.now ≡ true }
+    ensures answer { IfOk result (λ answer. answer ≡ cost_keeps context.now.dom.now context.now.path.now cost x step.now) }
     ensures asked { parts.new ≤ parts.old + cond (costs cost step.now) 1 0 }
 {
     match step {
         Step::Keep(test) => {
             if has_cost(test, cost) {
-                holds(alloc, dom, path, table, test, x, parts)
+                holds(
+                    context.alloc,
+                    context.dom,
+                    context.path,
+                    context.table,
+                    test,
+                    x,
+                    parts,
+                )
             } else {
                 Ok(true)
             }

@@ -6,15 +6,18 @@ ghost use Rattle.selector_meaning.specs.Meaning.{selects};
 ghost use Rattle.selector_match.specs.Asked.{IsElement};
 ghost use Rattle.proper_filters.specs.Proper.{is_proper, are_own};
 ghost use Rattle.procedural_ops.specs.Noted.{chain_tests, simple_tests};
+ghost use Rattle.procedural_ops.specs.Origins.{chain_of};
+ghost use Rattle.procedural_ops.specs.Others.{AreRight};
 ghost use Rattle.procedural_ops.specs.Reaching.{reached, is_selected};
 ghost use Rattle.procedural_ops.specs.Told.{selector_at};
 
+use crate::context::MatchingContext;
+use crate::own_others::Origin;
 use crate::{own, plain};
 use cos_outside::Steps;
-use cos_patterns::PatternTable;
-use dom_arena::Dom;
+use remembered::Members;
 use selector_tree::{Active, Chain, Step};
-use std::alloc::{AllocError, Global};
+use std::alloc::AllocError;
 use std::marker::Model;
 use std::sync::ledger::Ledger;
 
@@ -62,28 +65,33 @@ impl Verdict {
 /// The table has each pattern of the filter under its number, and `:others()` stands in the filter's own chains alone. Each
 /// call counts as one check, and each test without selectors in it that is asked of an element as one of the `parts`, also
 /// where there is no memory. Each of them, at whatever depth of the filter it stands, is asked at most once of each element.
+///
+/// What is found out of `:others()` for all children of a parent is remembered in `members`, for further questions about the
+/// same page as it stands and the same filters: whoever asks about another state of the page begins with an empty one.
 pub fn test<L: Ledger, P: Ledger>(
-    alloc: Global,
-    dom: &Dom,
-    path: &str,
-    table: &PatternTable,
+    context: &MatchingContext<'_>,
     active: &Active,
     f: u32,
     x: u32,
+    members: &mut Members,
     checks: &mut Steps<L>,
     parts: &mut Steps<P>,
 ) -> Result<Verdict, AllocError>
     requires filter { f < length active.now }
-    requires element { IsElement dom.now x }
-    requires proper { is_proper table.now.patterns (selector_at active.now f) ≡ true }
+    requires element { IsElement context.now.dom.now x }
+    requires proper { is_proper context.now.table.now.patterns (selector_at active.now f) ≡ true }
+    requires right { AreRight context.now.dom.now context.now.path.now active.now members.old }
     ensures filter { IfOk result (λ verdict. verdict.filter ≡ f) }
     ensures element { IfOk result (λ verdict. verdict.element ≡ x) }
-    ensures answer { IfOk result (λ verdict. verdict.yes ≡ selects pattern_found dom.now path.now (selector_at active.now f) x) }
+    ensures answer { IfOk result (λ verdict. verdict.yes ≡
+        selects pattern_found context.now.dom.now context.now.path.now (selector_at active.now f) x) }
+    ensures right { AreRight context.now.dom.now context.now.path.now active.now members.new }
     ensures counted { checks.new ≡ checks.old + 1 }
-    ensures asked { parts.new ≤ parts.old + simple_tests (selector_at active.now f) * length (all dom.now) }
+    ensures asked { parts.new ≤ parts.old
+        + simple_tests (selector_at active.now f) * length (all context.now.dom.now) }
 {
     checks.tick();
-    let yes = decide(alloc, dom, path, table, active, f, x, parts)?;
+    let yes = decide(context, active, f, x, members, parts)?;
     Ok(Verdict {
         filter: f,
         element: x,
@@ -93,52 +101,63 @@ pub fn test<L: Ledger, P: Ledger>(
 
 // Whether the filter at a place selects an element.
 fn decide<P: Ledger>(
-    alloc: Global,
-    dom: &Dom,
-    path: &str,
-    table: &PatternTable,
+    context: &MatchingContext<'_>,
     active: &Active,
     f: u32,
     x: u32,
+    members: &mut Members,
     parts: &mut Steps<P>,
 ) -> Result<bool, AllocError>
     requires filter { f < length active.now }
-    requires element { IsElement dom.now x }
-    requires proper { is_proper table.now.patterns (selector_at active.now f) ≡ true }
-    ensures answer { IfOk result (λ yes. yes ≡ selects pattern_found dom.now path.now (selector_at active.now f) x) }
-    ensures asked { parts.new ≤ parts.old + simple_tests (selector_at active.now f) * length (all dom.now) }
+    requires element { IsElement context.now.dom.now x }
+    requires proper { is_proper context.now.table.now.patterns (selector_at active.now f) ≡ true }
+    requires right { AreRight context.now.dom.now context.now.path.now active.now members.old }
+    ensures answer { IfOk result (λ yes. yes ≡
+        selects pattern_found context.now.dom.now context.now.path.now (selector_at active.now f) x) }
+    ensures right { AreRight context.now.dom.now context.now.path.now active.now members.new }
+    ensures asked { parts.new ≤ parts.old
+        + simple_tests (selector_at active.now f) * length (all context.now.dom.now) }
 {
     match active.at(f as usize) {
         Some(filter) => selects(
-            alloc,
-            dom,
-            path,
-            table,
+            context,
+            active,
+            f,
             filter.selector.as_slice(),
             x,
+            members,
             parts,
         ),
         None => Ok(false),
     }
 }
 
-// Whether some chain leads from all elements to an element.
+// Whether some chain of a filter leads from all elements to an element.
 fn selects<P: Ledger>(
-    alloc: Global,
-    dom: &Dom,
-    path: &str,
-    table: &PatternTable,
+    context: &MatchingContext<'_>,
+    active: &Active,
+    f: u32,
     selector: &[Chain],
     x: u32,
+    members: &mut Members,
     parts: &mut Steps<P>,
 ) -> Result<bool, AllocError>
-    requires element { IsElement dom.now x }
-    requires proper { is_proper table.now.patterns selector.now ≡ true }
-    ensures answer { IfOk result (λ answer. answer ≡ is_selected dom.now path.now selector.now x) }
-    ensures asked { parts.new ≤ parts.old + simple_tests selector.now * length (all dom.now) }
+    requires selector { selector.now ≡ selector_at active.now f }
+    requires element { IsElement context.now.dom.now x }
+    requires proper { is_proper context.now.table.now.patterns selector.now ≡ true }
+    requires right { AreRight context.now.dom.now context.now.path.now active.now members.old }
+    ensures answer { IfOk result (λ answer. answer ≡
+        is_selected context.now.dom.now context.now.path.now selector.now x) }
+    ensures right { AreRight context.now.dom.now context.now.path.now active.now members.new }
+    ensures asked { parts.new ≤ parts.old + simple_tests selector.now * length (all context.now.dom.now) }
 {
-    for chain in selector {
-        if chain_selects(alloc, dom, path, table, chain.as_slice(), x, parts)? {
+    for (i, chain) in selector.iter().enumerate() {
+        let origin = Origin {
+            active,
+            filter: f,
+            chain: i,
+        };
+        if chain_selects(context, &origin, chain.as_slice(), x, members, parts)? {
             return Ok(true);
         }
     }
@@ -147,22 +166,25 @@ fn selects<P: Ledger>(
 
 // Whether a chain leads from all elements to an element.
 fn chain_selects<P: Ledger>(
-    alloc: Global,
-    dom: &Dom,
-    path: &str,
-    table: &PatternTable,
+    context: &MatchingContext<'_>,
+    origin: &Origin<'_>,
     steps: &[Step],
     x: u32,
+    members: &mut Members,
     parts: &mut Steps<P>,
 ) -> Result<bool, AllocError>
-    requires element { IsElement dom.now x }
-    requires proper { are_own table.now.patterns steps.now ≡ true }
-    ensures answer { IfOk result (λ answer. answer ≡ is_in (reached dom.now path.now steps.now) x) }
-    ensures asked { parts.new ≤ parts.old + length (chain_tests steps.now) * length (all dom.now) }
+    requires element { IsElement context.now.dom.now x }
+    requires proper { are_own context.now.table.now.patterns steps.now ≡ true }
+    requires chain { steps.now ≡ chain_of origin.now }
+    requires right { AreRight context.now.dom.now context.now.path.now origin.now.active.now members.old }
+    ensures answer { IfOk result (λ answer. answer ≡
+        is_in (reached context.now.dom.now context.now.path.now steps.now) x) }
+    ensures right { AreRight context.now.dom.now context.now.path.now origin.now.active.now members.new }
+    ensures asked { parts.new ≤ parts.old + length (chain_tests steps.now) * length (all context.now.dom.now) }
 {
     if plain::is_plain(steps) {
-        plain::is_reached(alloc, dom, path, table, steps, x, parts)
+        plain::is_reached(context, steps, x, parts)
     } else {
-        own::is_reached(alloc, dom, path, table, steps, x, parts)
+        own::is_reached(context, origin, steps, x, members, parts)
     }
 }

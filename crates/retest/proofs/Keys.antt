@@ -20,23 +20,23 @@ any_alike f g [] h = refl
 any_alike f g (x ∷ xs) h = ap₂ (λ a b. a || b) (h x) (any_alike f g xs h)
 
 -- the filters that stand under some key of an element are those whose key it carries
-pub filed_at : (asking : Asking) → IsReady asking → (f x : ℕ) → list_any (λ k. is_filed asking.keyed.now k f) (keys_at asking.dom.now x) ≡ carried asking f x
+pub filed_at : (asking : Asking) → IsReady asking → (f x : ℕ) → list_any (λ k. is_filed asking.keyed.now k f) (keys_at asking.context.dom.now x) ≡ carried asking f x
 filed_at asking ready f x =
-    any_alike (λ k. is_filed asking.keyed.now k f) (λ k. list_any (same_key k) (map key_of_chain (selector_at asking.active.now f))) (keys_at asking.dom.now x) (λ k. ready.filed k f)
-    ∙ keyed_at asking.dom.now (selector_at asking.active.now f) x
+    any_alike (λ k. is_filed asking.keyed.now k f) (λ k. list_any (same_key k) (map key_of_chain (selector_at asking.active.now f))) (keys_at asking.context.dom.now x) (λ k. ready.filed k f)
+    ∙ keyed_at asking.context.dom.now (selector_at asking.active.now f) x
 
 -- no filter past the last has a key
 pub active_filter : (asking : Asking) (f x : ℕ) → carried asking f x ≡ true → f < length asking.active.now
 active_filter asking f x h = by asking.active.now f h
   where
-    by : (filters : List Filter) (n : ℕ) → is_keyed asking.dom.now (selector_at filters n) x ≡ true → n < length filters
+    by : (filters : List Filter) (n : ℕ) → is_keyed asking.context.dom.now (selector_at filters n) x ≡ true → n < length filters
     by [] n h = absurd (false≢true h)
     by (filter ∷ filters) zero h = omega arith
     by (filter ∷ filters) (suc n) h = let less = by filters n h in omega arith
 
 -- an element carries a key of each filter that selects it
 pub keyed : (asking : Asking) (f x : ℕ) → answers asking f x ≡ true → carried asking f x ≡ true
-keyed asking f x h = key_law pattern_found asking.dom.now asking.path.now (selector_at asking.active.now f) x h
+keyed asking f x h = key_law pattern_found asking.context.dom.now asking.context.path.now (selector_at asking.active.now f) x h
 
-pub has_keys : (asking : Asking) → HasKeys (all asking.dom.now) (answers asking) (carried asking)
+pub has_keys : (asking : Asking) → HasKeys (all asking.context.dom.now) (answers asking) (carried asking)
 has_keys asking f x here h = keyed asking f x h

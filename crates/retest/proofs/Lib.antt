@@ -4,3 +4,5 @@ pub mod Keys
 pub mod Starting
 pub mod Pricing
 mod Same
+mod Members
+pub mod Ends

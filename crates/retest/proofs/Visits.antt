@@ -1,5 +1,5 @@
 -- One visit of an element, and the visits of several, one after the other.
-use Rattle.std.proofs.Common.{◌≡◌, ℕ, Bool, true, false, ◌||◌, ◌&&◌, ◌==◌, ◌+◌, ◌≤◌, ◌<◌, not, cond, List, [], ◌∷◌, ◌++◌, append-nil, filter, take, length, get_or, nat_eq, refl, sym, ap, ap₂, ◌∙◌, inl, inr}
+use Rattle.std.proofs.Common.{◌≡◌, ℕ, Bool, true, false, ◌||◌, ◌&&◌, ◌==◌, ◌+◌, ◌≤◌, ◌<◌, not, cond, List, [], ◌∷◌, ◌++◌, append-nil, filter, take, length, get_or, nat_eq, refl, sym, ap, ◌∙◌, inl, inr}
 use Rattle.std.specs.List.{sum_by, list_any, IsDistinct}
 use Rattle.std.proofs.lemmas.Bool.{eqb-true, cases_Bool, and_parts, false≢true}
 use Rattle.std.proofs.lemmas.List.{take_more}
@@ -13,24 +13,29 @@ use Rattle.retest_laws.proofs.Counts.{bounded}
 use Rattle.generic_tables.proofs.Written.{contains-in}
 use Rattle.retest.proofs.Sets.{distinct_take, distinct_filter}
 
-here : (k p s o : Bool) → cond (k && p) s (o && not (o && p)) ≡ cond p (k && s) o
-here true true s o = refl
-here false true s true = refl
-here false true s false = refl
-here true false s true = refl
-here true false s false = refl
-here false false s true = refl
-here false false s false = refl
+here : (k p s o d : Bool) → (d ≡ true → (k && p) ≡ true) → ((p && s) ≡ true → d ≡ true) → cond d s (o && not (o && p)) ≡ cond p (k && s) o
+here true true s o true within enough = refl
+here true true true o false within enough = absurd (false≢true (enough refl))
+here true true false true false within enough = refl
+here true true false false false within enough = refl
+here true false s o true within enough = absurd (false≢true (within refl))
+here true false s true false within enough = refl
+here true false s false false within enough = refl
+here false p s o true within enough = absurd (false≢true (within refl))
+here false true s true false within enough = refl
+here false true s false false within enough = refl
+here false false s true false within enough = refl
+here false false s false false within enough = refl
 
--- one visit: what is stale goes, and what is due is asked
+-- one visit: what is stale goes, and what is due is asked; what is pending and isn't due has a no for its answer
 pub visited : (x y : ℕ) (new cleared old says keyed pends : ℕ → Bool) (due stale : Bool) →
     new y ≡ cond (y == x && due) (says y) (cleared y) → cleared y ≡ (old y && not (y == x && stale)) →
-    due ≡ (keyed x && pends x) → stale ≡ (old x && pends x) →
+    (due ≡ true → (keyed x && pends x) ≡ true) → ((pends x && says x) ≡ true → due ≡ true) → stale ≡ (old x && pends x) →
     new y ≡ cond (y == x && pends y) (keyed y && says y) (old y)
-visited x y new cleared old says keyed pends due stale n c d s = elim (cases_Bool (y == x)) [
+visited x y new cleared old says keyed pends due stale n c within enough s = elim (cases_Bool (y == x)) [
   | inl e ↦ n ∙ ap (λ b. cond (b && due) (says y) (cleared y)) e ∙ ap (λ b. cond due (says y) b) (c ∙ ap (λ b. old y && not (b && stale)) e)
-      ∙ ap₂ (λ a b. cond a (says y) (old y && not b)) (d ∙ ap (λ z. keyed z && pends z) (sym (eqb-true y x e))) (s ∙ ap (λ z. old z && pends z) (sym (eqb-true y x e)))
-      ∙ here (keyed y) (pends y) (says y) (old y)
+      ∙ ap (λ b. cond due (says y) (old y && not b)) (s ∙ ap (λ z. old z && pends z) (sym (eqb-true y x e)))
+      ∙ here (keyed y) (pends y) (says y) (old y) due (λ h. ap (λ z. keyed z && pends z) (eqb-true y x e) ∙ within h) (λ h. enough (ap (λ z. pends z && says z) (sym (eqb-true y x e)) ∙ h))
       ∙ sym (ap (λ b. cond (b && pends y) (keyed y && says y) (old y)) e)
   | inr e ↦ n ∙ ap (λ b. cond (b && due) (says y) (cleared y)) e ∙ c ∙ ap (λ b. old y && not (b && stale)) e ∙ and_true (old y)
       ∙ sym (ap (λ b. cond (b && pends y) (keyed y && says y) (old y)) e)
@@ -71,9 +76,8 @@ front_within n elements carries pends visits i once =
     (λ x h. (and_parts (is_in (take i visits) x) (is_in elements x) (sym (is_in-filter (is_in elements) (take i visits) x) ∙ h)).1)
 
 -- the filters to ask, as the code finds them
-pub due_members : (carried pends : ℕ → Bool) (due slice : List ℕ) → slice ≡ due → ((f : ℕ) → list_any (nat_eq f) due ≡ (carried f && pends f)) →
-    (f : ℕ) → is_in slice f ≡ (carried f && pends f)
-due_members carried pends due slice s d f = ap (λ l. is_in l f) s ∙ sym (contains-in due f) ∙ d f
+pub due_members : (due slice : List ℕ) → slice ≡ due → (f : ℕ) → is_in slice f ≡ list_any (nat_eq f) due
+due_members due slice s f = ap (λ l. is_in l f) s ∙ sym (contains-in due f)
 
 -- each visited element is pending somewhere, or not: all that is pending is visited
 pub all_visited : (i e p c o : Bool) → (p ≡ true → i ≡ true) → cond (i && (e && p)) c o ≡ cond (e && p) c o

@@ -4,32 +4,31 @@ ghost use Rattle.std.specs.List.{list_any};
 ghost use Rattle.page_tree.specs.Standings.{all};
 ghost use Rattle.page_tree.specs.Directions.{is_in};
 ghost use Rattle.selector_match.specs.Asked.{IsElement};
+ghost use Rattle.generic_tables.specs.Carried.{key_in};
+ghost use Rattle.generic_tables.specs.Tables.{is_filed};
 ghost use Rattle.kept_marks.specs.Kept.{is_marked, Sets, IsSame};
 ghost use Rattle.retest_laws.specs.Pending.{asked_again, due_at, budget, IsRightBut, IsExact};
-ghost use Rattle.retest.specs.Asked.{answers, carried, group_in, pends, IsReady};
+ghost use Rattle.retest.specs.Asked.{answers, carried, group_in, pends, IsReady, AreRightFor};
 ghost use Rattle.retest.specs.Priced.{price, IsPriced};
 
+use crate::look::may_select;
 use crate::{Everything, Pending, Pends};
 use cos_outside::Steps;
-use cos_patterns::PatternTable;
-use dom_arena::Dom;
-use generic_tables::{FilterTable, keys_at};
+use generic_tables::{FilterTable, KeyRef, keys_at};
 use indexmap::IndexSet;
 use kept_marks::Marks;
 use listed::Numbers;
-use procedural_ops::{next_element, test};
-use selector_match::is_element;
+use procedural_ops::{MatchingContext, test};
+use remembered::Members;
+use selector_match::{is_element, next_element};
 use selector_tree::Active;
 use std::alloc::{AllocError, Global};
 use std::sync::ledger::Ledger;
 
-/// A page, and the filters that are asked of its elements: with their patterns, by the keys of their chains, and the group of
-/// each.
+/// A page, and the filters that are asked of its elements: in order, by the keys of their chains, and the group of each.
 #[derive(Clone, Copy)]
 pub struct Asking<'a> {
-    pub dom: &'a Dom,
-    pub path: &'a str,
-    pub table: &'a PatternTable,
+    pub context: MatchingContext<'a>,
     pub active: &'a Active,
     pub keyed: &'a FilterTable,
     pub groups: &'a [u32],
@@ -45,47 +44,80 @@ fn group_of(groups: &[u32], f: u32) -> u32
     }
 }
 
-// Adds the filters of one key whose group is pending at an element.
+// Whether a filter may select an element: a no is right.
+fn may_answer(asking: &Asking<'_>, f: u32, x: u32) -> bool
+    requires { IsElement asking.now.context.dom.now x }
+    ensures { result ≡ false → answers asking.now f x ≡ false }
+{
+    match asking.active.at(f as usize) {
+        Some(filter) => may_select(&asking.context, filter.selector.as_slice(), x),
+        None => false,
+    }
+}
+
+// Whether to ask a filter under a key of an element: its group must be pending there. Every element has the key of nothing, so
+// a filter under that key is looked at before.
+fn is_due<W: Pends>(asking: &Asking<'_>, key: KeyRef<'_>, f: u32, pending: &W, x: u32) -> bool
+    requires { IsElement asking.now.context.dom.now x }
+    ensures within { result ≡ true →
+        W.pends pending.now (group_in asking.now.groups.now f) x ≡ true }
+    ensures spared { result ≡ false →
+        (W.pends pending.now (group_in asking.now.groups.now f) x
+        && answers asking.now f x) ≡ false }
+{
+    if !pending.has(group_of(asking.groups, f), x) {
+        return false;
+    }
+    match key {
+        KeyRef::None => may_answer(asking, f, x),
+        _ => true,
+    }
+}
+
+// Adds the filters under a key of an element that are to be asked of it: none that isn't pending there, and each that is and
+// selects it.
 fn add_due<W: Pends>(
+    asking: &Asking<'_>,
     due: &mut IndexSet<u32>,
-    filters: &[u32],
-    groups: &[u32],
+    key: KeyRef<'_>,
     pending: &W,
     x: u32,
 ) -> Result<(), AllocError>
-    ensures { OnOk result ((f : ℕ) → list_any (nat_eq f) due.new.keys ≡
-        (list_any (nat_eq f) due.old.keys ||
-        (is_in filters.now f && W.pends pending.now (group_in groups.now f) x))) }
+    requires { IsElement asking.now.context.dom.now x }
+    ensures within { OnOk result ((f : ℕ) → list_any (nat_eq f) due.new.keys ≡ true →
+        (list_any (nat_eq f) due.old.keys || (is_filed asking.now.keyed.now (key_in key.entry) f
+        && W.pends pending.now (group_in asking.now.groups.now f) x)) ≡ true) }
+    ensures enough { OnOk result ((f : ℕ) →
+        (list_any (nat_eq f) due.old.keys || (is_filed asking.now.keyed.now (key_in key.entry) f
+        && (W.pends pending.now (group_in asking.now.groups.now f) x
+        && answers asking.now f x))) ≡ true →
+        list_any (nat_eq f) due.new.keys ≡ true) }
 {
-    for f in filters {
-        if pending.has(group_of(groups, *f), x) {
+    for f in asking.keyed.filters_for(key) {
+        if is_due(asking, key, *f, pending, x) {
             due.insert(*f)?;
         }
     }
     Ok(())
 }
 
-// The filters to ask at an element, each once: those whose key it carries and whose group is pending there.
-fn due_of<W: Pends>(
-    alloc: Global,
-    asking: &Asking<'_>,
-    pending: &W,
-    x: u32,
-) -> Result<IndexSet<u32>, AllocError>
-    requires { IsReady asking.now }
-    ensures { IfOk result (λ due. (f : ℕ) → list_any (nat_eq f) due.keys ≡
-        (carried asking.now f x && W.pends pending.now (group_in asking.now.groups.now f) x)) }
+// The filters to ask at an element, each once. It carries a key of each of them, and their groups are pending there; those that
+// are pending there and select it are among them.
+fn due_of<W: Pends>(asking: &Asking<'_>, pending: &W, x: u32) -> Result<IndexSet<u32>, AllocError>
+    requires ready { IsReady asking.now }
+    requires element { IsElement asking.now.context.dom.now x }
+    ensures within { IfOk result (λ due. (f : ℕ) → list_any (nat_eq f) due.keys ≡ true →
+        (carried asking.now f x
+        && W.pends pending.now (group_in asking.now.groups.now f) x) ≡ true) }
+    ensures enough { IfOk result (λ due. (f : ℕ) →
+        (W.pends pending.now (group_in asking.now.groups.now f) x
+        && answers asking.now f x) ≡ true →
+        list_any (nat_eq f) due.keys ≡ true) }
 {
-    let mut due = IndexSet::new(alloc);
-    let mut keys = keys_at(asking.dom, x);
+    let mut due = IndexSet::new(asking.context.alloc);
+    let mut keys = keys_at(asking.context.dom, x);
     'keys: while let Some(key) = keys.next() {
-        add_due(
-            &mut due,
-            asking.keyed.filters_for(key),
-            asking.groups,
-            pending,
-            x,
-        )?;
+        add_due(asking, &mut due, key, pending, x)?;
     }
     Ok(due)
 }
@@ -122,87 +154,84 @@ fn clear_all(marks: &mut Marks, stale: &[u32], x: u32)
 
 // Asks a filter of an element, and marks the answer.
 fn ask<L: Ledger, P: Ledger>(
-    alloc: Global,
     asking: &Asking<'_>,
     f: u32,
     x: u32,
+    members: &mut Members,
     marks: &mut Marks,
     checks: &mut Steps<L>,
     parts: &mut Steps<P>,
 ) -> Result<(), AllocError>
     requires ready { IsReady asking.now }
-    requires element { IsElement asking.now.dom.now x }
+    requires right { AreRightFor asking.now members.old }
+    requires element { IsElement asking.now.context.dom.now x }
     requires filter { f < length asking.now.active.now }
     ensures marks { OnOk result (Sets marks.old marks.new f x (answers asking.now f x)) }
+    ensures right { AreRightFor asking.now members.new }
     ensures checks { checks.new ≡ checks.old + 1 }
-    ensures parts { IsPriced (price asking.now.active.now asking.now.dom.now)
+    ensures parts { IsPriced (price asking.now.active.now asking.now.context.dom.now)
         checks.old checks.new parts.old parts.new }
 {
-    let verdict = test(
-        alloc,
-        asking.dom,
-        asking.path,
-        asking.table,
-        asking.active,
-        f,
-        x,
-        checks,
-        parts,
-    )?;
+    let verdict = test(&asking.context, asking.active, f, x, members, checks, parts)?;
     marks.put(verdict)
 }
 
 // Asks some filters of an element, and marks the answers.
 fn ask_all<L: Ledger, P: Ledger>(
-    alloc: Global,
     asking: &Asking<'_>,
     due: &[u32],
     x: u32,
+    members: &mut Members,
     marks: &mut Marks,
     checks: &mut Steps<L>,
     parts: &mut Steps<P>,
 ) -> Result<(), AllocError>
     requires ready { IsReady asking.now }
-    requires element { IsElement asking.now.dom.now x }
+    requires right { AreRightFor asking.now members.old }
+    requires element { IsElement asking.now.context.dom.now x }
     requires filters { (f : ℕ) → is_in due.now f ≡ true → f < length asking.now.active.now }
     ensures marks { OnOk result ((g y : ℕ) → is_marked marks.new g y ≡
         cond (y == x && is_in due.now g) (answers asking.now g y) (is_marked marks.old g y)) }
+    ensures right { AreRightFor asking.now members.new }
     ensures checks { checks.new ≤ checks.old + length due.now }
-    ensures parts { IsPriced (price asking.now.active.now asking.now.dom.now)
+    ensures parts { IsPriced (price asking.now.active.now asking.now.context.dom.now)
         checks.old checks.new parts.old parts.new }
 {
     for f in due {
-        ask(alloc, asking, *f, x, marks, checks, parts)?;
+        ask(asking, *f, x, members, marks, checks, parts)?;
     }
     Ok(())
 }
 
 // Asks again what is pending at an element, and answers whether its marks are others than before.
 fn ask_at<W: Pends, L: Ledger, P: Ledger>(
-    alloc: Global,
     asking: &Asking<'_>,
     pending: &W,
     x: u32,
+    members: &mut Members,
     marks: &mut Marks,
     checks: &mut Steps<L>,
     parts: &mut Steps<P>,
 ) -> Result<bool, AllocError>
     requires ready { IsReady asking.now }
-    requires element { IsElement asking.now.dom.now x }
+    requires right { AreRightFor asking.now members.old }
+    requires element { IsElement asking.now.context.dom.now x }
     ensures marks { OnOk result ((g y : ℕ) → is_marked marks.new g y ≡
         cond (y == x && W.pends pending.now (group_in asking.now.groups.now g) y)
         (carried asking.now g y && answers asking.now g y) (is_marked marks.old g y)) }
+    ensures right { AreRightFor asking.now members.new }
     ensures checks { checks.new ≤ checks.old +
         due_at (length asking.now.active.now) (carried asking.now) (λ f y. W.pends pending.now (group_in asking.now.groups.now f) y) x }
-    ensures parts { IsPriced (price asking.now.active.now asking.now.dom.now)
+    ensures parts { IsPriced (price asking.now.active.now asking.now.context.dom.now)
         checks.old checks.new parts.old parts.new }
     ensures same { IfOk result (λ changed. changed ≡ false → IsSame marks.old marks.new) }
 {
-    let due = due_of(alloc, asking, pending, x)?;
+    let alloc = asking.context.alloc;
+    let due = due_of(asking, pending, x)?;
     let stale = stale_of(alloc, asking.groups, pending, marks.of(x), x)?;
     let before = copied(alloc, marks.of(x))?;
     clear_all(marks, stale.as_slice(), x);
-    ask_all(alloc, asking, due.as_slice(), x, marks, checks, parts)?;
+    ask_all(asking, due.as_slice(), x, members, marks, checks, parts)?;
     Ok(differ(before.as_slice(), marks.of(x)))
 }
 
@@ -230,27 +259,29 @@ fn either(a: bool, b: bool) -> bool
 
 // Asks again what is pending, at the elements that the page still has, and answers whether a mark is another one than before.
 fn ask_pending<L: Ledger, P: Ledger>(
-    alloc: Global,
     asking: &Asking<'_>,
     pending: &Pending,
+    members: &mut Members,
     marks: &mut Marks,
     checks: &mut Steps<L>,
     parts: &mut Steps<P>,
 ) -> Result<bool, AllocError>
-    requires { IsReady asking.now }
+    requires ready { IsReady asking.now }
+    requires right { AreRightFor asking.now members.old }
     ensures marks { OnOk result ((f x : ℕ) → is_marked marks.new f x ≡
-        asked_again (all asking.now.dom.now) (answers asking.now) (carried asking.now)
+        asked_again (all asking.now.context.dom.now) (answers asking.now) (carried asking.now)
         (pends asking.now pending.now) (is_marked marks.old) f x) }
+    ensures right { AreRightFor asking.now members.new }
     ensures checks { checks.new ≤ checks.old +
-        budget (length asking.now.active.now) (all asking.now.dom.now) (carried asking.now) (pends asking.now pending.now) }
-    ensures parts { IsPriced (price asking.now.active.now asking.now.dom.now)
+        budget (length asking.now.active.now) (all asking.now.context.dom.now) (carried asking.now) (pends asking.now pending.now) }
+    ensures parts { IsPriced (price asking.now.active.now asking.now.context.dom.now)
         checks.old checks.new parts.old parts.new }
     ensures same { IfOk result (λ changed. changed ≡ false → IsSame marks.old marks.new) }
 {
     let mut changed = false;
     for x in pending.elements() {
-        if is_element(asking.dom, *x) {
-            let one = ask_at(alloc, asking, pending, *x, marks, checks, parts)?;
+        if is_element(asking.context.dom, *x) {
+            let one = ask_at(asking, pending, *x, members, marks, checks, parts)?;
             changed = either(changed, one);
         }
     }
@@ -262,7 +293,6 @@ fn ask_pending<L: Ledger, P: Ledger>(
 /// Where the marks were right but for what is pending, they are exact afterwards. Elements that the page has no more must
 /// have left the marks before. The answer is whether a mark is another one than before.
 pub fn retest<L: Ledger, P: Ledger>(
-    alloc: Global,
     asking: &Asking<'_>,
     pending: &Pending,
     marks: &mut Marks,
@@ -271,41 +301,50 @@ pub fn retest<L: Ledger, P: Ledger>(
 ) -> Result<bool, AllocError>
     requires { IsReady asking.now }
     ensures marks { OnOk result ((f x : ℕ) → is_marked marks.new f x ≡
-        asked_again (all asking.now.dom.now) (answers asking.now) (carried asking.now)
+        asked_again (all asking.now.context.dom.now) (answers asking.now) (carried asking.now)
         (pends asking.now pending.now) (is_marked marks.old) f x) }
-    ensures exact { IsRightBut (all asking.now.dom.now) (answers asking.now) (is_marked marks.old)
+    ensures exact { IsRightBut (all asking.now.context.dom.now) (answers asking.now) (is_marked marks.old)
         (pends asking.now pending.now) →
-        OnOk result (IsExact (all asking.now.dom.now) (answers asking.now) (is_marked marks.new)) }
+        OnOk result (IsExact (all asking.now.context.dom.now) (answers asking.now) (is_marked marks.new)) }
     ensures checks { checks.new ≤ checks.old +
-        budget (length asking.now.active.now) (all asking.now.dom.now) (carried asking.now) (pends asking.now pending.now) }
-    ensures parts { IsPriced (price asking.now.active.now asking.now.dom.now)
+        budget (length asking.now.active.now) (all asking.now.context.dom.now) (carried asking.now) (pends asking.now pending.now) }
+    ensures parts { IsPriced (price asking.now.active.now asking.now.context.dom.now)
         checks.old checks.new parts.old parts.new }
     ensures same { IfOk result (λ changed. changed ≡ false → IsSame marks.old marks.new) }
 {
-    ask_pending(alloc, asking, pending, marks, checks, parts)
+    let mut members = Members::new(asking.context.alloc);
+    ask_pending(asking, pending, &mut members, marks, checks, parts)
 }
 
-/// The marks of a page: each filter is asked of each element that carries a key of it, once.
+/// The marks of a page: each filter is asked of the elements that carry a key of it, of each once at most.
 pub fn start<L: Ledger, P: Ledger>(
-    alloc: Global,
     asking: &Asking<'_>,
     checks: &mut Steps<L>,
     parts: &mut Steps<P>,
 ) -> Result<Marks, AllocError>
     requires { IsReady asking.now }
     ensures exact { IfOk result (λ marks.
-        IsExact (all asking.now.dom.now) (answers asking.now) (is_marked marks)) }
+        IsExact (all asking.now.context.dom.now) (answers asking.now) (is_marked marks)) }
     ensures checks { checks.new ≤ checks.old +
-        budget (length asking.now.active.now) (all asking.now.dom.now) (carried asking.now) (λ f x. true) }
-    ensures parts { IsPriced (price asking.now.active.now asking.now.dom.now)
+        budget (length asking.now.active.now) (all asking.now.context.dom.now) (carried asking.now) (λ f x. true) }
+    ensures parts { IsPriced (price asking.now.active.now asking.now.context.dom.now)
         checks.old checks.new parts.old parts.new }
 {
-    asking.dom.is_tree();
-    let mut marks = Marks::new(alloc);
-    let mut at = next_element(asking.dom, 0);
+    asking.context.dom.is_tree();
+    let mut members = Members::new(asking.context.alloc);
+    let mut marks = Marks::new(asking.context.alloc);
+    let mut at = next_element(asking.context.dom, 0);
     'elements: while let Some(x) = at {
-        ask_at(alloc, asking, &Everything, x, &mut marks, checks, parts)?;
-        at = next_element(asking.dom, x);
+        ask_at(
+            asking,
+            &Everything,
+            x,
+            &mut members,
+            &mut marks,
+            checks,
+            parts,
+        )?;
+        at = next_element(asking.context.dom, x);
     }
     Ok(marks)
 }

@@ -2,10 +2,12 @@
 //!
 //! After each change `Pending` notes what it made dirty, by groups of filters; `retest` then asks each filter of the elements at
 //! which its group is pending and whose keys it has, each pair once, so that kept answers are exact again. `start` asks each
-//! filter of all elements that carry a key of it.
+//! filter of all elements that carry a key of it. Before a filter without a key is asked of an element, a look at the tests at the
+//! end of its chains may spare the question, where the answer is no.
 #![tactic(auto)]
 
 mod asking;
+mod look;
 mod noting;
 mod pending;
 mod pends;

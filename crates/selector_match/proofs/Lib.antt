@@ -1,6 +1,9 @@
+pub mod Border
 pub mod Beside
 pub mod Under
 pub mod Shown
 pub mod Values
 pub mod WordLaws
 pub mod Nth
+pub mod Walking
+pub mod Onward

@@ -138,7 +138,7 @@ pub part_here : (w s : List ℕ) → starts_with nat_eq s w ≡ true → has_par
 part_here w [] h = h
 part_here w (c ∷ s) h = or_left (starts_with nat_eq (c ∷ s) w) (has_part w s) h
 
-part_from : (w s : List ℕ) → has_part w s ≡ true → HasSubslice s w
+pub part_from : (w s : List ℕ) → has_part w s ≡ true → HasSubslice s w
 part_from w [] h = ([], drop (length w) [], front_from w [] h)
   where
     front_from : (w s : List ℕ) → starts_with nat_eq s w ≡ true → s ≡ w ++ drop (length w) s
@@ -149,7 +149,7 @@ part_from w (c ∷ s) h =
       | inr e ↦ let r = part_from w s e in (c ∷ r.0, r.1, ap (λ (x : List ℕ). c ∷ x) r.2)
     ]
 
-part_at : (w a b : List ℕ) → has_part w (a ++ (w ++ b)) ≡ true
+pub part_at : (w a b : List ℕ) → has_part w (a ++ (w ++ b)) ≡ true
 part_at w [] b = part_here w (w ++ b) (text_same w (take (length w) (w ++ b)) (sym (take-append_seam w b)))
 part_at w (c ∷ a) b = or_right (starts_with nat_eq (c ∷ (a ++ (w ++ b))) w) (has_part w (a ++ (w ++ b))) (part_at w a b)
 

@@ -1,5 +1,5 @@
 -- What the walks of this crate answer.
-use Rattle.std.specs.Prelude.{◌≡◌, ℕ, Bool, true, false, not, ◌==◌, length, List, [], ◌∷◌, Option, None, Some, if◌then◌else◌}
+use Rattle.std.specs.Prelude.{◌≡◌, ℕ, ◌-◌, Bool, true, false, not, ◌==◌, length, drop, List, [], ◌∷◌, Option, None, Some, if◌then◌else◌}
 use Rattle.dom_arena.specs.declared.kinds.NodeKind.{NodeKind}
 use Rattle.dom_arena.specs.declared.kinds.NodeKind.TheVariants.{Document, Element, Text, Comment}
 use Rattle.selector_tree.specs.declared.selector.Place.{Place}
@@ -37,6 +37,10 @@ fills (Some document) = false
 fills (Some (element called given)) = true
 fills (Some (text bytes)) = not (length bytes == 0)
 fills (Some (comment bytes)) = false
+
+-- the last so many bytes, or all where there are fewer
+abbrev pub end_of : ℕ → List ℕ → List ℕ
+end_of count bytes = drop (length bytes - count) bytes
 
 module _ (t : Tree) where
   -- the number is that of an element

@@ -104,7 +104,7 @@ pub(crate) fn has_units(dom: &Dom, x: u32, wanted: u32) -> bool
 }
 
 // The text of a node itself, if it is a text.
-fn own_text(dom: &Dom, n: u32) -> &str
+pub(crate) fn own_text(dom: &Dom, n: u32) -> &str
     ensures { result.now ≡ own_text dom.now n }
 {
     match dom.node(n) {

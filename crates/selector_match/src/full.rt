@@ -1,6 +1,7 @@
 //! Tests with texts and patterns.
 ghost use Rattle.std.specs.Prelude.{◌≡◌, ◌+◌, true, ◌&&◌, IfOk};
 ghost use Rattle.std.specs.List.{list_any};
+ghost use Rattle.page_tree.specs.Facts.{text_content};
 ghost use Rattle.page_tree.specs.Standings.{attrs};
 ghost use Rattle.cos_patterns.specs.Found.{pattern_found};
 ghost use Rattle.selector_meaning.specs.Meaning.{holds, is_found, is_named, is_named_by};
@@ -9,6 +10,7 @@ ghost use Rattle.selector_match.specs.Kinds.{is_single};
 ghost use Rattle.proper_filters.specs.Held.{is_ready, is_held, is_held_or_none};
 
 use crate::below::text_of;
+use crate::literals::has_literal;
 use crate::plain::{attrs_of, holds_by_page};
 use crate::texts::holds_text;
 use cos_outside::Steps;
@@ -20,8 +22,9 @@ use std::sync::ledger::Ledger;
 
 /// Whether a test holds for an element, for tests other than `Is`, `Not` and `Has`.
 ///
-/// The table has each pattern of the test under its number. Memory is taken for a text content, which is joined once, and
-/// by patterns. Each call counts as one of the `parts`, also where there is no memory.
+/// The table has each pattern of the test under its number. Memory is taken by patterns, and for the text content where a
+/// pattern is looked for, which is joined once. A literal is looked for in the texts as they lie, and takes memory by its own
+/// length alone. Each call counts as one of the `parts`, also where there is no memory.
 pub fn holds<P: Ledger>(
     alloc: Global,
     dom: &Dom,
@@ -56,13 +59,32 @@ fn holds_by_text(
     ensures { IfOk result (λ answer. answer ≡ holds pattern_found dom.now path.now test.now x) }
 {
     match test {
-        Test::HasText(arg) => {
-            let text = text_of(alloc, dom, x)?;
-            is_found(table, text.as_str(), arg)
-        }
+        Test::HasText(arg) => has_text(alloc, dom, table, arg, x),
         Test::MatchesPath(arg) => is_found(table, path, arg),
         Test::MatchesAttr { name, value } => has_attr_by(table, dom, x, name, value),
         _ => Ok(holds_by_page(dom, path, test, x)),
+    }
+}
+
+// Whether the text content of an element holds the literal, or the pattern is found in it. Only a pattern needs it joined.
+fn has_text(
+    alloc: Global,
+    dom: &Dom,
+    table: &PatternTable,
+    arg: &Arg,
+    x: u32,
+) -> Result<bool, AllocError>
+    requires element { IsElement dom.now x }
+    requires held { is_held table.now.patterns arg.now ≡ true }
+    ensures { IfOk result (λ answer.
+        answer ≡ is_found pattern_found arg.now (text_content dom.now x)) }
+{
+    match arg {
+        Arg::Literal(literal) => has_literal(alloc, dom, x, literal.as_str()),
+        Arg::Pattern { number, .. } => {
+            let text = text_of(alloc, dom, x)?;
+            table.finds(*number, text.as_str())
+        }
     }
 }
 

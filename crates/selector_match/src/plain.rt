@@ -39,8 +39,11 @@ pub fn holds_plain<P: Ledger>(
     holds_by_page(dom, path, test, x)
 }
 
-// The answer for such a test.
-pub(crate) fn holds_by_page(dom: &Dom, path: &str, test: &Test, x: u32) -> bool
+/// The answer for such a test, which counts nothing.
+///
+/// It is for this crate, which has counted the test before, and for a look that may spare a question: what is asked of a filter
+/// goes through the functions that count.
+pub fn holds_by_page(dom: &Dom, path: &str, test: &Test, x: u32) -> bool
     requires element { IsElement dom.now x }
     requires plain { is_plain test.now ≡ true }
     ensures { result ≡ holds pattern_found dom.now path.now test.now x }

@@ -4,8 +4,8 @@ use Rattle.cos_patterns.specs.Found.{pattern_found}
 use Rattle.selector_tree.specs.declared.filter.Action.TheVariants.{Remove}
 use Rattle.selector_meaning.specs.Hidden.{rows_of}
 use Rattle.selector_match.specs.Asked.{IsElement}
-use Rattle.procedural_ops.specs.Walks.{elements_behind, order}
-use Rattle.procedural_ops.proofs.Walking.{from_one}
+use Rattle.selector_match.specs.Walks.{elements_behind, order}
+use Rattle.selector_match.proofs.Walking.{from_one}
 use Rattle.engine_meaning.specs.Hidden.{acts_on}
 use Rattle.engine_meaning.specs.Rounds.{taken_in}
 use Rattle.hide_engine.specs.Removing.{taken_rows}

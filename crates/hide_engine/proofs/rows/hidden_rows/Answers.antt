@@ -6,8 +6,8 @@ use Rattle.kept_marks.specs.Rising.{IsRising}
 use Rattle.selector_tree.specs.declared.filter.Action.TheVariants.{Hide}
 use Rattle.selector_tree.specs.declared.filter.HiddenRow.{HiddenRow}
 use Rattle.selector_meaning.specs.Hidden.{places_from, rows_of}
-use Rattle.procedural_ops.specs.Walks.{elements_behind, order}
-use Rattle.procedural_ops.proofs.Walking.{from_one, from_found, all_behind, some_of}
+use Rattle.selector_match.specs.Walks.{elements_behind, order}
+use Rattle.selector_match.proofs.Walking.{from_one, from_found, all_behind, some_of}
 use Rattle.engine_meaning.specs.Hidden.{pair_of, acts_on, hidden}
 use Rattle.engine_meaning.specs.States.{State}
 use Rattle.hide_engine.specs.Chosen.{chosen}

@@ -2,8 +2,8 @@ use Rattle.std.proofs.Common.{◌≡◌, ◌++◌, ℕ, List, true, filter, ap, 
 use Rattle.page_tree.specs.Standings.{all}
 use Rattle.page_tree.specs.Directions.{is_in}
 use Rattle.selector_meaning.specs.Meaning.{is_other}
-use Rattle.procedural_ops.specs.Walks.{elements_behind, order}
-use Rattle.procedural_ops.proofs.Walking.{from_one, from_found, all_behind, some_of}
+use Rattle.selector_match.specs.Walks.{elements_behind, order}
+use Rattle.selector_match.proofs.Walking.{from_one, from_found, all_behind, some_of}
 use Rattle.procedural_ops.proofs.beside.others.Goals as goal
 
 pub elements-init : goal.elements-init

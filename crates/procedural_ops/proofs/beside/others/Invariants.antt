@@ -3,8 +3,8 @@ use Rattle.page_tree.specs.Standings.{all}
 use Rattle.page_tree.specs.Directions.{is_in}
 use Rattle.selector_meaning.specs.Meaning.{is_other}
 use Rattle.selector_match.specs.Asked.{IsElement}
-use Rattle.procedural_ops.specs.Walks.{elements_behind, order}
-use Rattle.procedural_ops.proofs.Walking.{from_one}
+use Rattle.selector_match.specs.Walks.{elements_behind, order}
+use Rattle.selector_match.proofs.Walking.{from_one}
 use Rattle.procedural_ops.proofs.beside.others.Given as goal
 
 abbrev pub invariant-elements : goal.invariant-elements

@@ -1,28 +1,35 @@
-use Rattle.std.proofs.Common.{ℕ, Bool, List, ◌∙◌, length, sym, subst, arith}
+use Rattle.std.proofs.Common.{◌≡◌, Bool, ◌∙◌, length, sym, subst}
+use Rattle.std.specs.Prelude.{IfOk}
 use Rattle.page_tree.specs.Standings.{all}
 use Rattle.procedural_ops.specs.Count.{many_asked}
-use Rattle.procedural_ops.specs.Noted.{IsRight, chain_tests, chain_cells}
+use Rattle.procedural_ops.specs.Noted.{chain_tests}
+use Rattle.procedural_ops.proofs.Fronts as fronts
 use Rattle.procedural_ops.proofs.Simple as simple
-use Rattle.procedural_ops.proofs.Parts as parts
+use Rattle.procedural_ops.proofs.Steps as steps
 use Rattle.procedural_ops.proofs.Totals as totals
-use Rattle.procedural_ops.proofs.Remembered as remembered
+use Rattle.procedural_ops.proofs.Weights as weights
 use Rattle.procedural_ops.proofs.own.is_front_reached.Goals as goal
 
-pub is_reached-requires-2-clause-at : goal.is_reached-requires-2-clause-at
-is_reached-requires-2-clause-at g c = parts.part_all (chain_cells c.args.steps.now)
+pub is_other-requires-clause-proper : goal.is_other-requires-clause-proper
+is_other-requires-clause-proper g c =
+    (weights.own_last c.args.context.now.table.now.patterns c.args.steps.now c.in-Some.before.now c.in-Some.last.now c.in-Some.ensures.cases.0 c.requires.proper).0
 
-pub is_reached-requires-2-clause-right : goal.is_reached-requires-2-clause-right
-is_reached-requires-2-clause-right g c =
-    subst (λ (n : List (List (ℕ × Bool))). IsRight c.args.dom.now c.args.steps.now n c.args.path.now) (sym c.in_ok-notes.ensures)
-    (remembered.none_right c.args.dom.now c.args.steps.now c.args.path.now c.in_ok-behind.field-0 (omega (arith, c.in_ok-behind.ensures)))
+pub is_other-requires-clause-front : goal.is_other-requires-clause-front
+is_other-requires-clause-front g c =
+    fronts.all_but_last c.args.steps.now c.in-Some.before.now c.in-Some.last.now _ c.in-Some.ensures.cases.0 c.requires.front
 
-pub returns-in_err-reached-clause-asked : goal.returns-in_err-reached-clause-asked
-returns-in_err-reached-clause-asked g c = omega (arith, c.is_reached-2.ensures.asked, remembered.few_unknown c.args.dom.now c.args.steps.now c.in_ok-notes.notes)
+pub returns-in-Others-clause-answer : goal.returns-in-Others-clause-answer
+returns-in-Others-clause-answer g c =
+    subst (λ (b : Bool). IfOk c.is_other.result (λ answer. answer ≡ b))
+    (sym (steps.reached_others c.args.context.now.dom.now c.args.context.now.path.now c.args.steps.now c.in-Some.before.now c.in-Some.last.now c.args.x c.in-Some.ensures.cases.0 c.requires.element c.in-Others.is))
+    c.is_other.ensures.answer
 
-pub returns-clause-asked : goal.returns-clause-asked
-returns-clause-asked g c = omega (arith, c.is_reached-2.ensures.asked, remembered.few_unknown c.args.dom.now c.args.steps.now c.in_ok-notes.notes)
+pub returns-in-Others-clause-asked : goal.returns-in-Others-clause-asked
+returns-in-Others-clause-asked g c =
+    simple.product_few (length (chain_tests c.in-Some.before.now)) (length (chain_tests c.args.steps.now)) (length (all c.args.context.now.dom.now)) c.args.parts.now c.is_other.new.parts c.is_other.ensures.asked
+    (fronts.fewer_asked c.args.steps.now c.in-Some.before.now c.in-Some.last.now c.in-Some.ensures.cases.0)
 
 pub returns-then-is_plain-clause-asked : goal.returns-then-is_plain-clause-asked
 returns-then-is_plain-clause-asked g c =
-    simple.product_few (many_asked c.args.steps.now) (length (chain_tests c.args.steps.now)) (length (all c.args.dom.now)) c.args.parts.now c.is_reached.new.parts c.is_reached.ensures.asked
+    simple.product_few (many_asked c.args.steps.now) (length (chain_tests c.args.steps.now)) (length (all c.args.context.now.dom.now)) c.args.parts.now c.is_reached.new.parts c.is_reached.ensures.asked
     (totals.plain_tests c.args.steps.now (sym c.is_plain.ensures ∙ c.if-is_plain.true))

@@ -7,6 +7,6 @@ use Rattle.procedural_ops.proofs.own.nested_hold.Given as goal
 
 abbrev pub invariant-loop-i : goal.invariant-loop-i
 invariant-loop-i g l = record {
-  kept : list_all (nested_keeps l.dom l.path l.x) (take l.i l.run) ≡ true;
-  asked : l.parts ≤ l.fn.parts + nested_tests (take l.i l.run) * length (all l.dom);
+  kept : list_all (nested_keeps l.context.dom.now l.context.path.now l.x) (take l.i l.run) ≡ true;
+  asked : l.parts ≤ l.fn.parts + nested_tests (take l.i l.run) * length (all l.context.dom.now);
 }

@@ -9,8 +9,8 @@ nested_hold-requires-clause-at g c = parts.part_all (chain_cells c.args.run.now)
 
 pub nested_hold-requires-clause-right : goal.nested_hold-requires-clause-right
 nested_hold-requires-clause-right g c =
-    subst (λ (n : List (List (ℕ × Bool))). IsRight c.args.dom.now c.args.run.now n c.args.path.now) (sym c.in_ok-notes.ensures)
-    (remembered.none_right c.args.dom.now c.args.run.now c.args.path.now c.in_ok-behind.field-0 (omega (arith, c.in_ok-behind.ensures)))
+    subst (λ (n : List (List (ℕ × Bool))). IsRight c.args.context.now.dom.now c.args.run.now n c.args.context.now.path.now) (sym c.in_ok-notes.ensures)
+    (remembered.none_right c.args.context.now.dom.now c.args.run.now c.args.context.now.path.now c.in_ok-behind.field-0 (omega (arith, c.in_ok-behind.ensures)))
 
 pub returns-clause-asked : goal.returns-clause-asked
-returns-clause-asked g c = omega (arith, c.nested_hold.ensures.asked, remembered.few_unknown c.args.dom.now c.args.run.now c.in_ok-notes.notes)
+returns-clause-asked g c = omega (arith, c.nested_hold.ensures.asked, remembered.few_unknown c.args.context.now.dom.now c.args.run.now c.in_ok-notes.notes)

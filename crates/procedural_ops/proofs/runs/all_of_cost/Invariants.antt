@@ -6,6 +6,6 @@ use Rattle.procedural_ops.proofs.runs.all_of_cost.Given as goal
 
 abbrev pub invariant-loop-step : goal.invariant-loop-step
 invariant-loop-step g l = record {
-  kept : list_all (cost_keeps l.dom l.path l.cost l.x) (take l.step-index l.run) ≡ true;
+  kept : list_all (cost_keeps l.context.dom.now l.context.path.now l.cost l.x) (take l.step-index l.run) ≡ true;
   asked : l.parts ≤ l.fn.parts + many_costing l.cost (take l.step-index l.run);
 }

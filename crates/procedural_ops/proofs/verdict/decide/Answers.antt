@@ -15,12 +15,12 @@ returns-in-Some-clause-answer g c =
     let same : c.as_slice.result.now ≡ selector_at c.args.active.now c.args.f =
     c.as_slice.ensures ∙ ap (λ (o : Option Filter). unwrap_or (option_map (λ filter. filter.selector) o) []) c.in-Some.ensures.item in
     subst (λ (b : Bool). IfOk c.selects.result (λ yes. yes ≡ b))
-    (selects_is c.args.dom.now c.args.path.now c.as_slice.result.now c.args.x
-    ∙ ap (λ (l : List (List Step)). selects pattern_found c.args.dom.now c.args.path.now l c.args.x) same)
+    (selects_is c.args.context.now.dom.now c.args.context.now.path.now c.as_slice.result.now c.args.x
+    ∙ ap (λ (l : List (List Step)). selects pattern_found c.args.context.now.dom.now c.args.context.now.path.now l c.args.x) same)
     c.selects.ensures.answer
 
 pub returns-in-Some-clause-asked : goal.returns-in-Some-clause-asked
 returns-in-Some-clause-asked g c =
     let same : c.as_slice.result.now ≡ selector_at c.args.active.now c.args.f =
     c.as_slice.ensures ∙ ap (λ (o : Option Filter). unwrap_or (option_map (λ filter. filter.selector) o) []) c.in-Some.ensures.item in
-    subst (λ (l : List (List Step)). c.selects.new.parts ≤ c.args.parts.now + simple_tests l * length (all c.args.dom.now)) same c.selects.ensures.asked
+    subst (λ (l : List (List Step)). c.selects.new.parts ≤ c.args.parts.now + simple_tests l * length (all c.args.context.now.dom.now)) same c.selects.ensures.asked

@@ -24,11 +24,11 @@ returns-clause-marks g c =
 pub returns-in_err-verdict-clause-parts : goal.returns-in_err-verdict-clause-parts
 returns-in_err-verdict-clause-parts g c =
     let asking = c.args.asking.now in
-    one_asked (price asking.active.now asking.dom.now) (simple_tests (selector_at asking.active.now c.args.f) * length (all asking.dom.now)) c.args.checks.now c.test.new.checks
-    c.args.parts.now c.test.new.parts c.test.ensures.counted c.test.ensures.asked (within_price asking.active.now asking.dom.now c.args.f c.requires.filter)
+    one_asked (price asking.active.now asking.context.dom.now) (simple_tests (selector_at asking.active.now c.args.f) * length (all asking.context.dom.now)) c.args.checks.now c.test.new.checks
+    c.args.parts.now c.test.new.parts c.test.ensures.counted c.test.ensures.asked (within_price asking.active.now asking.context.dom.now c.args.f c.requires.filter)
 
 pub returns-clause-parts : goal.returns-clause-parts
 returns-clause-parts g c =
     let asking = c.args.asking.now in
-    one_asked (price asking.active.now asking.dom.now) (simple_tests (selector_at asking.active.now c.args.f) * length (all asking.dom.now)) c.args.checks.now c.test.new.checks
-    c.args.parts.now c.test.new.parts c.test.ensures.counted c.test.ensures.asked (within_price asking.active.now asking.dom.now c.args.f c.requires.filter)
+    one_asked (price asking.active.now asking.context.dom.now) (simple_tests (selector_at asking.active.now c.args.f) * length (all asking.context.dom.now)) c.args.checks.now c.test.new.checks
+    c.args.parts.now c.test.new.parts c.test.ensures.counted c.test.ensures.asked (within_price asking.active.now asking.context.dom.now c.args.f c.requires.filter)

@@ -54,6 +54,7 @@ loop-f-preserved g c =
           one_answered f h c.args.x y (answers asking) (is_in (take i due) h) (is_marked c.ask.new.marks h y) (is_marked c.loop-f.marks h y) (is_marked c.args.marks.now h y)
           (c.loop-f.invariant.marks h y) (c.in_ok-ask.ensures.marks h y)
           ∙ ap (λ b. cond (y == c.args.x && b) (answers asking h y) (is_marked c.args.marks.now h y)) (sym (turn due i h within));
+      right = c.in_ok-ask.ensures.right;
       checks = omega (arith, c.in_ok-ask.ensures.checks, c.loop-f.invariant.checks);
       parts = asked_more c.loop-f.invariant.parts c.in_ok-ask.ensures.parts;
     }

@@ -2,8 +2,8 @@ use Rattle.std.proofs.Common.{◌≡◌, ◌&&◌, ◌||◌, ℕ, Some, true, le
 use Rattle.page_tree.specs.Standings.{all}
 use Rattle.page_tree.specs.Directions.{is_in}
 use Rattle.selector_match.specs.Asked.{IsElement}
-use Rattle.procedural_ops.specs.Walks.{elements_behind, order}
-use Rattle.procedural_ops.proofs.Walking.{from_one}
+use Rattle.selector_match.specs.Walks.{elements_behind, order}
+use Rattle.selector_match.proofs.Walking.{from_one}
 use Rattle.generic_tables.specs.declared.keys.Key.{Key}
 use Rattle.generic_tables.specs.Keys.{carries}
 use Rattle.generic_tables.specs.Filed.{holds}

@@ -1,0 +1,15 @@
+use Rattle.std.proofs.Common.{◌≡◌}
+use Rattle.page_tree.specs.Forest.{rooted, size, first, find, children}
+use Rattle.page_tree.specs.Standings.{siblings_of}
+use Rattle.page_tree.proofs.Parts.{siblings_from}
+use Rattle.selector_match.proofs.Beside.{forth_from}
+use Rattle.selector_match.proofs.walks.first_child.Given as goal
+
+abbrev pub invariant-nodes : goal.invariant-nodes
+invariant-nodes l = record {
+  same : siblings_of (children (find l.x (rooted l.dom.nodes))) ≡ forth_from l.dom l.at;
+  there : first (siblings_from l.at (rooted l.dom.nodes)) ≡ l.at;
+}
+
+abbrev pub decreases-nodes : goal.decreases-nodes
+decreases-nodes l = size (siblings_from l.at (rooted l.dom.nodes))
