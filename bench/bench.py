@@ -23,7 +23,7 @@ It makes its own input in a temporary folder.
   and a delete keep it flat.
 - 10,000 rules of public suffixes, and what finding the active filters of a page takes beside reading the lists.
 - What changes cost: on a list that nothing observes, with ten times the filters or the page, on a page of 800,000 nodes, and in
-  the worst cases."""
+  the worst cases; what the engine holds for an element and for a filter."""
 
 import argparse
 import os
@@ -357,9 +357,8 @@ def costs(program, folder):
     for name, make in OPERATORS.items():
         lines = [f"##{make(i)}" for i in range(200)]
         ran = cost(program, folder, f"200 of `{name}`, 10,000 nodes", lines, elements) and ran
-    # Many elements are asked for each element, so these are few.
-    lines = [f"##.c{i}:others()" for i in range(4)]
-    return cost(program, folder, "4 of `:others()`, 10,000 nodes", lines, elements) and ran
+    lines = [f"##.c{i}:others()" for i in range(200)]
+    return cost(program, folder, "200 of `:others()`, 10,000 nodes", lines, elements) and ran
 
 
 def bad_input(program, folder):
@@ -384,6 +383,12 @@ def bad_input(program, folder):
     write(Path(folder, "list"), ["##.b ~ .a ~ .a\n"])
     write(Path(folder, "page"), ["<b class=a></b>" * 5_000])
     ran.append(measure(program, folder, "`a ~ b ~ b` on 5,000 siblings", report("list")))
+    write(Path(folder, "list"), ["##.a:has(~ .a ~ .a ~ .b)\n", "##.a:has(+ .a ~ .a + .a ~ .a ~ .b)\n"])
+    write(Path(folder, "page"), ["<b class=a></b>" * 5_000])
+    ran.append(measure(program, folder, "`:has()` with many `~`, 5,000 siblings", report("list")))
+    write(Path(folder, "list"), ["##*:has-text(zzz)\n", "##*:min-text-length(4000000000)\n"])
+    write(Path(folder, "page"), ["<b>" * 500, *("ab " * 1000 for _ in range(5_500))])
+    ran.append(measure(program, folder, "a text of 16 MB under 500 elements", report("list")))
     write(Path(folder, "list"), ["##b:nth-last-of-type(3n)\n"])
     write(Path(folder, "page"), ["<b></b><i></i>" * 10_000])
     ran.append(measure(program, folder, "20,000 siblings counted from the last", report("list")))
@@ -438,6 +443,28 @@ def one_class(count, every=2):
     return (f"attr {1 + every * (i * 7919 % 5_000)} class row c{i % 97}" for i in range(count))
 
 
+def memory(program, folder):
+    """What the engine holds for an element that a filter selects, and for a filter, beside runs without."""
+    def each(name, count, first, second):
+        peaks = []
+        for words in (first, second):
+            _, peak, status, _ = run(program, folder, words)
+            if status:
+                return False
+            peaks.append(peak)
+        print(f"{name:<38}{(peaks[1] - peaks[0]) / count:>21,.0f} bytes")
+        return True
+
+    write(Path(folder, "page"), ["<br class=row>" * 900_000])
+    write(Path(folder, "list"), ["##.other\n"])
+    ran = each("an element, held by the engine", 900_000, report("none", "--brief"), report("list", "--brief"))
+    write(Path(folder, "list"), ["##.row\n"])
+    ran = each("an element that a filter selects", 900_000, report("none", "--brief"), report("list", "--brief")) and ran
+    write(Path(folder, "page"), ["<p>"])
+    write(Path(folder, "list"), generic_list(500_000))
+    return each("a filter, beyond its list", 500_000, ["lists", "list"], report("list", "--brief")) and ran
+
+
 def engine(program, folder):
     """What changes cost, beside the same on other lists and pages. `--brief` prints numbers alone."""
     classes = [f"##.c{i}\n" for i in range(2_000)]
@@ -476,6 +503,7 @@ def engine(program, folder):
     pairs = (line for i in range(10_000) for line in ("insert 1 0 <b class=x></b>", f"delete {20_001 + i}"))
     ran.append(changes(program, folder, "10,000 inserts and deletes in turn", pairs, 20_000))
     ran.append(worst_cases(program, folder))
+    ran.append(memory(program, folder))
     ran.append(measure(program, folder, "drill 2000", ["drill", "2000"]))
     return all(ran)
 
