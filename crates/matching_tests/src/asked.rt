@@ -1,6 +1,7 @@
 // Whether a filter selects an element.
 ghost use Rattle.std.specs.Prelude.{◌≡◌, ◌<◌, true, length, IfOk};
 ghost use Rattle.proper_filters.specs.Proper.{is_proper};
+ghost use Rattle.procedural_ops.specs.Others.{AreRight};
 ghost use Rattle.procedural_ops.specs.Told.{selector_at};
 
 use cos_outside::Steps;
@@ -83,7 +84,7 @@ pub(crate) fn is_selected<L: Ledger, P: Ledger>(
 pub(crate) fn all_selected<L: Ledger, P: Ledger>(
     alloc: Global,
     dom: &Dom,
-    text: &str,
+    text: &Text,
     last: u32,
     checks: Blank,
     parts: Blank,
@@ -97,7 +98,7 @@ pub(crate) fn all_selected<L: Ledger, P: Ledger>(
 {
     let mut checks = Steps::<L>::new(checks);
     let mut parts = Steps::<P>::new(parts);
-    let (table, active) = filter(alloc, text)?;
+    let (table, active) = filter(alloc, text.as_str())?;
     let context = MatchingContext {
         alloc,
         dom,
@@ -105,21 +106,35 @@ pub(crate) fn all_selected<L: Ledger, P: Ledger>(
         table: &table,
     };
     let mut members = Members::new(alloc);
-    let mut found = Numbers::new(alloc);
+    selected_to(
+        &context,
+        &active,
+        last,
+        &mut members,
+        &mut checks,
+        &mut parts,
+    )
+}
+
+// The elements from 1 to the last that the only filter selects.
+fn selected_to<L: Ledger, P: Ledger>(
+    context: &MatchingContext<'_>,
+    active: &Active,
+    last: u32,
+    members: &mut Members,
+    checks: &mut Steps<L>,
+    parts: &mut Steps<P>,
+) -> Result<Numbers, Fail>
+    requires one { length active.now ≡ 1 }
+    requires proper { is_proper context.now.table.now.patterns (selector_at active.now 0) ≡ true }
+    requires right { AreRight context.now.dom.now context.now.path.now active.now members.old }
+{
+    let mut found = Numbers::new(context.alloc);
     for x in 1..=last {
-        if !is_element(dom, x) {
+        if !is_element(context.dom, x) {
             continue;
         }
-        let verdict = test(
-            &context,
-            &active,
-            0,
-            x,
-            &mut members,
-            &mut checks,
-            &mut parts,
-        )?;
-        if verdict.yes() {
+        if test(context, active, 0, x, members, checks, parts)?.yes() {
             found.push(x)?;
         }
     }

@@ -62,15 +62,16 @@ fn siblings_share_what_is_found_out(rt: HostRuntime) -> Result<(), Fail> {
         ("div:others()", [8].as_slice()),
         (".a:others() > u", [7].as_slice()),
     ] {
+        let filter = Text::of(alloc, filter)?;
         let found = all_selected::<Brand, Brand>(
             alloc,
             &dom,
-            filter,
+            &filter,
             8,
             Blank::new(1),
             Blank::new(1),
         )?;
-        assert_eq!(rt; found.as_slice(), expected, "{filter}");
+        assert_eq!(rt; found.as_slice(), expected, "{}", filter.as_str());
     }
     Ok(())
 }
