@@ -455,6 +455,7 @@ def memory(program, folder):
         print(f"{name:<38}{(peaks[1] - peaks[0]) / count:>21,.0f} bytes")
         return True
 
+    write(Path(folder, "none"), [])
     write(Path(folder, "page"), ["<br class=row>" * 900_000])
     write(Path(folder, "list"), ["##.other\n"])
     ran = each("an element, held by the engine", 900_000, report("none", "--brief"), report("list", "--brief"))
