@@ -472,6 +472,7 @@ def engine(program, folder):
     write(Path(folder, "page"), flat_page(20_000))
     write(Path(folder, "script"), (f"attr {2 * i + 1} title t{i}\n" for i in range(2_000)))
     write(Path(folder, "list"), classes)
+    write(Path(folder, "none"), [])
     brief = ("--brief", "--script", "script")
     seconds = [measure(program, folder, "2,000 lines that nothing observes", report("none", *brief))]
     seconds.append(measure(program, folder, "  with 2,000 class filters", report("list", *brief)))
