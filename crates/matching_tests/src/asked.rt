@@ -4,7 +4,7 @@ ghost use Rattle.proper_filters.specs.Proper.{is_proper};
 ghost use Rattle.procedural_ops.specs.Told.{selector_at};
 
 use cos_outside::Steps;
-use cos_patterns::{CrateMaker, PatternTable};
+use cos_patterns::{CrateMaker, PatternSearcher, PatternTable};
 use dom_arena::Dom;
 use listed::{Numbers, Text};
 use procedural_ops::{MatchingContext, test};
@@ -60,11 +60,12 @@ pub(crate) fn is_selected<L: Ledger, P: Ledger>(
         return Err(Fail::from("no element"));
     }
     let (table, active) = filter(alloc, text.as_str())?;
+    let searcher = PatternSearcher::new(&table);
     let context = MatchingContext {
         alloc,
         dom,
         path: "/",
-        table: &table,
+        table: &searcher,
     };
     let mut members = Members::new(alloc);
     let verdict = test(
@@ -98,11 +99,12 @@ pub(crate) fn all_selected<L: Ledger, P: Ledger>(
     let mut checks = Steps::<L>::new(checks);
     let mut parts = Steps::<P>::new(parts);
     let (table, active) = filter(alloc, text)?;
+    let searcher = PatternSearcher::new(&table);
     let context = MatchingContext {
         alloc,
         dom,
         path: "/",
-        table: &table,
+        table: &searcher,
     };
     let mut members = Members::new(alloc);
     let mut found = Numbers::new(alloc);
