@@ -14,7 +14,7 @@ ghost use Rattle.procedural_ops.specs.Runs.{nested_keeps};
 use crate::context::MatchingContext;
 use crate::count::behind;
 use crate::inquiry::Inquiry;
-use crate::own_others::{Origin, is_other};
+use crate::own_others::{Origin, is_other_of_front};
 use crate::runs::{is_nested, run_start, singles_hold};
 use crate::{plain, search};
 use cos_outside::Steps;
@@ -128,7 +128,7 @@ fn is_front_reached<P: Ledger>(
         return is_found(context, steps, x, parts);
     };
     match last {
-        Step::Others => is_other(context, origin, before, x, members, parts),
+        Step::Others => is_other_of_front(context, origin, before, x, members, parts),
         _ => is_found(context, steps, x, parts),
     }
 }

@@ -13,7 +13,7 @@ use crate::context::MatchingContext;
 use crate::count::behind;
 use crate::inquiry::Inquiry;
 use crate::places::is_shown;
-use crate::search::{reaches_above, reaches_below, reaches_beside};
+use crate::search::{reaches_above, reaches_below, reaches_below_parent};
 use cos_outside::Steps;
 use dom_arena::Dom;
 use remembered::{Front, Members, Noted};
@@ -33,7 +33,7 @@ pub(crate) struct Origin<'a> {
 /// Whether `:others()` leads to an element from those to which the steps before it lead: they lead neither to it nor to what is
 /// above or below it, but to something that stands below its parent. The last is the same for all children of a parent, and
 /// so it is found out once.
-pub(crate) fn is_other<P: Ledger>(
+pub(crate) fn is_other_of_front<P: Ledger>(
     context: &MatchingContext<'_, '_>,
     origin: &Origin<'_>,
     steps: &[Step],
@@ -78,7 +78,7 @@ pub(crate) fn is_other<P: Ledger>(
     if let Some(known) = members.answer(front) {
         return Ok(known);
     }
-    let found = reaches_beside(&inquiry, steps, x, 0, &mut notes, parts)?;
+    let found = reaches_below_parent(&inquiry, steps, x, 0, &mut notes, parts)?;
     members.put(front, found)?;
     Ok(found)
 }
