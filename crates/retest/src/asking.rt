@@ -27,8 +27,8 @@ use std::sync::ledger::Ledger;
 
 /// A page, and the filters that are asked of its elements: in order, by the keys of their chains, and the group of each.
 #[derive(Clone, Copy)]
-pub struct Asking<'a> {
-    pub context: MatchingContext<'a>,
+pub struct Asking<'a, 'p> {
+    pub context: MatchingContext<'a, 'p>,
     pub active: &'a Active,
     pub keyed: &'a FilterTable,
     pub groups: &'a [u32],
@@ -45,7 +45,7 @@ fn group_of(groups: &[u32], f: u32) -> u32
 }
 
 // Whether a filter may select an element: a no is right.
-fn may_answer(asking: &Asking<'_>, f: u32, x: u32) -> bool
+fn may_answer(asking: &Asking<'_, '_>, f: u32, x: u32) -> bool
     requires { IsElement asking.now.context.dom.now x }
     ensures { result ≡ false → answers asking.now f x ≡ false }
 {
@@ -57,7 +57,7 @@ fn may_answer(asking: &Asking<'_>, f: u32, x: u32) -> bool
 
 // Whether to ask a filter under a key of an element: its group must be pending there. Every element has the key of nothing, so
 // a filter under that key is looked at before.
-fn is_due<W: Pends>(asking: &Asking<'_>, key: KeyRef<'_>, f: u32, pending: &W, x: u32) -> bool
+fn is_due<W: Pends>(asking: &Asking<'_, '_>, key: KeyRef<'_>, f: u32, pending: &W, x: u32) -> bool
     requires { IsElement asking.now.context.dom.now x }
     ensures within { result ≡ true →
         W.pends pending.now (group_in asking.now.groups.now f) x ≡ true }
@@ -77,7 +77,7 @@ fn is_due<W: Pends>(asking: &Asking<'_>, key: KeyRef<'_>, f: u32, pending: &W, x
 // Adds the filters under a key of an element that are to be asked of it: none that isn't pending there, and each that is and
 // selects it.
 fn add_due<W: Pends>(
-    asking: &Asking<'_>,
+    asking: &Asking<'_, '_>,
     due: &mut IndexSet<u32>,
     key: KeyRef<'_>,
     pending: &W,
@@ -103,7 +103,11 @@ fn add_due<W: Pends>(
 
 // The filters to ask at an element, each once. It carries a key of each of them, and their groups are pending there; those that
 // are pending there and select it are among them.
-fn due_of<W: Pends>(asking: &Asking<'_>, pending: &W, x: u32) -> Result<IndexSet<u32>, AllocError>
+fn due_of<W: Pends>(
+    asking: &Asking<'_, '_>,
+    pending: &W,
+    x: u32,
+) -> Result<IndexSet<u32>, AllocError>
     requires ready { IsReady asking.now }
     requires element { IsElement asking.now.context.dom.now x }
     ensures within { IfOk result (λ due. (f : ℕ) → list_any (nat_eq f) due.keys ≡ true →
@@ -154,7 +158,7 @@ fn clear_all(marks: &mut Marks, stale: &[u32], x: u32)
 
 // Asks a filter of an element, and marks the answer.
 fn ask<L: Ledger, P: Ledger>(
-    asking: &Asking<'_>,
+    asking: &Asking<'_, '_>,
     f: u32,
     x: u32,
     members: &mut Members,
@@ -178,7 +182,7 @@ fn ask<L: Ledger, P: Ledger>(
 
 // Asks some filters of an element, and marks the answers.
 fn ask_all<L: Ledger, P: Ledger>(
-    asking: &Asking<'_>,
+    asking: &Asking<'_, '_>,
     due: &[u32],
     x: u32,
     members: &mut Members,
@@ -205,7 +209,7 @@ fn ask_all<L: Ledger, P: Ledger>(
 
 // Asks again what is pending at an element, and answers whether its marks are others than before.
 fn ask_at<W: Pends, L: Ledger, P: Ledger>(
-    asking: &Asking<'_>,
+    asking: &Asking<'_, '_>,
     pending: &W,
     x: u32,
     members: &mut Members,
@@ -259,7 +263,7 @@ fn either(a: bool, b: bool) -> bool
 
 // Asks again what is pending, at the elements that the page still has, and answers whether a mark is another one than before.
 fn ask_pending<L: Ledger, P: Ledger>(
-    asking: &Asking<'_>,
+    asking: &Asking<'_, '_>,
     pending: &Pending,
     members: &mut Members,
     marks: &mut Marks,
@@ -293,7 +297,7 @@ fn ask_pending<L: Ledger, P: Ledger>(
 /// Where the marks were right but for what is pending, they are exact afterwards. Elements that the page has no more must
 /// have left the marks before. The answer is whether a mark is another one than before.
 pub fn retest<L: Ledger, P: Ledger>(
-    asking: &Asking<'_>,
+    asking: &Asking<'_, '_>,
     pending: &Pending,
     marks: &mut Marks,
     checks: &mut Steps<L>,
@@ -318,7 +322,7 @@ pub fn retest<L: Ledger, P: Ledger>(
 
 /// The marks of a page: each filter is asked of the elements that carry a key of it, of each once at most.
 pub fn start<L: Ledger, P: Ledger>(
-    asking: &Asking<'_>,
+    asking: &Asking<'_, '_>,
     checks: &mut Steps<L>,
     parts: &mut Steps<P>,
 ) -> Result<Marks, AllocError>

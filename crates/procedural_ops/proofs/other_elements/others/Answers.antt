@@ -4,7 +4,7 @@ use Rattle.page_tree.specs.Directions.{is_in}
 use Rattle.selector_meaning.specs.Meaning.{is_other}
 use Rattle.selector_match.specs.Walks.{elements_behind, order}
 use Rattle.selector_match.proofs.Walking.{from_one, from_found, all_behind, some_of}
-use Rattle.procedural_ops.proofs.beside.others.Goals as goal
+use Rattle.procedural_ops.proofs.other_elements.others.Goals as goal
 
 pub elements-init : goal.elements-init
 elements-init c =

@@ -1,13 +1,11 @@
-use Rattle.std.proofs.Common.{◌≡◌, ◌∙◌, Bool, false, List, sym, ap, arith}
+use Rattle.std.proofs.Common.{◌∙◌, List, sym, ap, arith}
 use Rattle.selector_tree.specs.declared.selector.Step.{Step}
-use Rattle.selector_meaning.specs.Meaning.{is_other, parent}
 use Rattle.procedural_ops.specs.Noted.{chain_cells}
 use Rattle.procedural_ops.specs.Others.{leads_below}
-use Rattle.procedural_ops.specs.Reaching.{reached}
 use Rattle.procedural_ops.proofs.Around as around
 use Rattle.procedural_ops.proofs.Parts as parts
 use Rattle.procedural_ops.proofs.Remembered as remembered
-use Rattle.procedural_ops.proofs.own_others.is_other.Goals as goal
+use Rattle.procedural_ops.proofs.own_others.is_other_of_front.Goals as goal
 
 pub reaches_above-requires-clause-at : goal.reaches_above-requires-clause-at
 reaches_above-requires-clause-at g c =
@@ -17,8 +15,8 @@ pub reaches_below-requires-clause-at : goal.reaches_below-requires-clause-at
 reaches_below-requires-clause-at g c =
     parts.part_all (chain_cells c.args.steps.now)
 
-pub reaches_beside-requires-clause-at : goal.reaches_beside-requires-clause-at
-reaches_beside-requires-clause-at g c =
+pub reaches_below_parent-requires-clause-at : goal.reaches_below_parent-requires-clause-at
+reaches_below_parent-requires-clause-at g c =
     parts.part_all (chain_cells c.args.steps.now)
 
 pub returns-in_err-reaches_above-clause-asked : goal.returns-in_err-reaches_above-clause-asked
@@ -43,15 +41,15 @@ returns-in-Some-clause-asked g c =
 
 pub returns-in_err-found-clause-asked : goal.returns-in_err-found-clause-asked
 returns-in_err-found-clause-asked g c =
-    omega (arith, c.reaches_above.ensures.asked, c.reaches_below.ensures.asked, c.reaches_beside.ensures.asked, remembered.few_unknown c.args.context.now.dom.now c.args.steps.now c.in_ok-notes.notes)
+    omega (arith, c.reaches_above.ensures.asked, c.reaches_below.ensures.asked, c.reaches_below_parent.ensures.asked, remembered.few_unknown c.args.context.now.dom.now c.args.steps.now c.in_ok-notes.notes)
 
 pub returns-in_err-put-clause-asked : goal.returns-in_err-put-clause-asked
 returns-in_err-put-clause-asked g c =
-    omega (arith, c.reaches_above.ensures.asked, c.reaches_below.ensures.asked, c.reaches_beside.ensures.asked, remembered.few_unknown c.args.context.now.dom.now c.args.steps.now c.in_ok-notes.notes)
+    omega (arith, c.reaches_above.ensures.asked, c.reaches_below.ensures.asked, c.reaches_below_parent.ensures.asked, remembered.few_unknown c.args.context.now.dom.now c.args.steps.now c.in_ok-notes.notes)
 
 pub returns-clause-asked : goal.returns-clause-asked
 returns-clause-asked g c =
-    omega (arith, c.reaches_above.ensures.asked, c.reaches_below.ensures.asked, c.reaches_beside.ensures.asked, remembered.few_unknown c.args.context.now.dom.now c.args.steps.now c.in_ok-notes.notes)
+    omega (arith, c.reaches_above.ensures.asked, c.reaches_below.ensures.asked, c.reaches_below_parent.ensures.asked, remembered.few_unknown c.args.context.now.dom.now c.args.steps.now c.in_ok-notes.notes)
 
 pub returns-then-branch-clause-answer : goal.returns-then-branch-clause-answer
 returns-then-branch-clause-answer g c =

@@ -3,7 +3,7 @@ use Rattle.page_tree.specs.Standings.{name}
 use Rattle.selector_meaning.specs.Meaning.{of_same_name}
 use Rattle.selector_meaning.specs.Texts.{is_empty}
 use Rattle.selector_match.specs.Asked.{IsElement, side}
-use Rattle.selector_match.proofs.siblings.has_beside.Given as goal
+use Rattle.selector_match.proofs.siblings.has_sibling.Given as goal
 
 abbrev pub invariant-siblings : goal.invariant-siblings
 invariant-siblings l = record {

@@ -4,7 +4,7 @@ ghost use Rattle.page_tree.specs.Standings.{all};
 ghost use Rattle.selector_meaning.specs.Meaning.{is_other};
 ghost use Rattle.selector_match.specs.Asked.{IsElement};
 
-use crate::places::{is_apart, is_near_now, is_shown};
+use crate::places::{is_apart, is_beside_by_now, is_shown};
 use dom_arena::Dom;
 use listed::Numbers;
 use selector_match::next_element;
@@ -19,7 +19,7 @@ pub fn others(alloc: Global, dom: &Dom, members: &[u32]) -> Result<Numbers, Allo
     let mut found = Numbers::new(alloc);
     let mut at = next_element(dom, 0);
     'elements: while let Some(x) = at {
-        push_if(&mut found, is_other(dom, members, x), x)?;
+        push_if(&mut found, is_other_of_members(dom, members, x), x)?;
         at = next_element(dom, x);
     }
     Ok(found)
@@ -34,7 +34,7 @@ fn push_if(found: &mut Numbers, belongs: bool, x: u32) -> Result<(), AllocError>
 }
 
 // Whether `:others()` leads to an element from some elements.
-fn is_other(dom: &Dom, members: &[u32], x: u32) -> bool
+fn is_other_of_members(dom: &Dom, members: &[u32], x: u32) -> bool
     requires element { IsElement dom.now x }
     requires members { All (λ y. IsElement dom.now y) members.now }
     ensures { result ≡ is_other dom.now members.now x }
@@ -42,12 +42,12 @@ fn is_other(dom: &Dom, members: &[u32], x: u32) -> bool
     if !is_shown(dom, x) {
         return false;
     }
-    let mut near = false;
+    let mut beside = false;
     for y in members {
         if !is_apart(dom, *y, x) {
             return false;
         }
-        near = is_near_now(dom, near, true, *y, x);
+        beside = is_beside_by_now(dom, beside, *y, x);
     }
-    near
+    beside
 }

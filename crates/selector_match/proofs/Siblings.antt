@@ -1,13 +1,13 @@
 -- An element's parent and siblings, as the walks over nodes find them.
-use Rattle.std.proofs.Common.{◌≡◌, ℕ, suc, ◌+◌, ◌<◌, ◌≤◌, ◌==◌, ◌||◌, Bool, true, false, List, [], ◌∷◌, filter, length, cond, Option, Some, None, refl, sym, ◌∙◌, ap, inl, inr, arith, subst}
+use Rattle.std.proofs.Common.{◌≡◌, ℕ, suc, ◌+◌, ◌<◌, ◌≤◌, ◌==◌, Bool, true, false, List, [], ◌∷◌, filter, length, cond, Option, Some, None, refl, sym, ◌∙◌, ap, inl, inr, arith, subst}
 use Rattle.std.specs.Prelude.{option_map, unwrap_or}
-use Rattle.std.proofs.lemmas.Bool.{cond_both, eq-eqb, ne_eqb}
+use Rattle.std.proofs.lemmas.Bool.{cond_both}
 use Rattle.dom_arena.specs.Contents.{kind_of}
 use Rattle.selector_tree.specs.declared.selector.Place.{Place}
 use Rattle.selector_tree.specs.declared.selector.Place.TheVariants.{Child, Descendant, Next, After}
 use Rattle.page_tree.specs.Forest.{Content, document, element, text, comment, Forest, empty, node, Tree, rooted, count, size, find, first, or_else, later_of, content, name_of, parent_in, previous_in}
 use Rattle.page_tree.specs.Standings.{Sibling, siblings_of, all, above, before, after}
-use Rattle.page_tree.specs.Directions.{is_in, head_is, numbers_of}
+use Rattle.page_tree.specs.Directions.{is_in, head_is}
 use Rattle.page_tree.specs.Trees.{IsTree}
 use Rattle.page_tree.proofs.Finding.{find-rooted}
 use Rattle.page_tree.proofs.Elements.{is_element, once-tree, room-tree, is_in-all, is_in-all-rooted, after-find, name-find, name-rooted}
@@ -16,7 +16,7 @@ use Rattle.page_tree.proofs.Parts.{siblings_from, from_next}
 use Rattle.selector_meaning.specs.Meaning.{is_there, of_same_name}
 use Rattle.std.specs.Option.{option_or}
 use Rattle.std.specs.Str.{bytes_eq}
-use Rattle.selector_match.specs.Asked.{IsElement, is_element_kind, sibling, sources, near, side}
+use Rattle.selector_match.specs.Asked.{IsElement, is_element_kind, sibling, sources, is_one_step, side}
 
 -- a kind is that of elements where the content is
 pub kind_is : (c : Content) → is_element_kind (kind_of c) ≡ is_element (Some c)
@@ -209,44 +209,11 @@ module _ (t : Tree) (tree : IsTree t) (o : Option ℕ) (k : ℕ) (at : o ≡ Som
 -- ---- combinators
 
 -- where a combinator leads from, by its sources
-pub is_there-sources : (t : Tree) (place : Place) (y x : ℕ) → is_there t place y x ≡ cond (near place) (head_is (sources t place x) y) (is_in (sources t place x) y)
+pub is_there-sources : (t : Tree) (place : Place) (y x : ℕ) → is_there t place y x ≡ cond (is_one_step place) (head_is (sources t place x) y) (is_in (sources t place x) y)
 is_there-sources t Child y x = refl
 is_there-sources t Descendant y x = refl
 is_there-sources t Next y x = refl
 is_there-sources t After y x = refl
-
-module _ (t : Tree) (place : Place) (from x : ℕ) where
-  pub there_none : sources t place x ≡ [] → is_there t place from x ≡ false
-  there_none h =
-      is_there-sources t place from x ∙ ap (λ (l : List ℕ). cond (near place) (head_is l from) (is_in l from)) h
-      ∙ elim (near place) as (λ b. cond b (head_is [] from) (is_in [] from) ≡ false) [ true ↦ refl | false ↦ refl ]
-
-  module _ (y : ℕ) (split : sources t place x ≡ y ∷ sources t place y) where
-    pub there_first : y ≡ from → is_there t place from x ≡ true
-    there_first e =
-        is_there-sources t place from x ∙ ap (λ (l : List ℕ). cond (near place) (head_is l from) (is_in l from)) split
-        ∙ ap (λ b. cond (near place) b (b || is_in (sources t place y) from)) (eq-eqb y from e)
-        ∙ elim (near place) as (λ b. cond b true true ≡ true) [ true ↦ refl | false ↦ refl ]
-
-    pub there_near : (y ≡ from → ⊥) → near place ≡ true → is_there t place from x ≡ false
-    there_near ne n =
-        is_there-sources t place from x ∙ ap (λ (l : List ℕ). cond (near place) (head_is l from) (is_in l from)) split
-        ∙ ap (λ b. cond (near place) b (b || is_in (sources t place y) from)) (ne_eqb y from ne)
-        ∙ ap (λ b. cond b false (is_in (sources t place y) from)) n
-
-    pub there_far : (y ≡ from → ⊥) → near place ≡ false → is_there t place from x ≡ is_there t place from y
-    there_far ne n =
-        is_there-sources t place from x ∙ ap (λ (l : List ℕ). cond (near place) (head_is l from) (is_in l from)) split
-        ∙ ap (λ b. cond (near place) b (b || is_in (sources t place y) from)) (ne_eqb y from ne)
-        ∙ ap (λ b. cond b false (is_in (sources t place y) from)) n
-        ∙ sym (is_there-sources t place from y ∙ ap (λ b. cond b (head_is (sources t place y) from) (is_in (sources t place y) from)) n)
-
-    pub sources_fall : length (sources t place y) < length (sources t place x)
-    sources_fall = omega (arith, ap length split)
-
--- the earlier siblings by number
-pub numbers_of-before : (t : Tree) (x y : ℕ) → before t x ≡ sibling t y ∷ before t y → numbers_of (before t x) ≡ y ∷ numbers_of (before t y)
-numbers_of-before t x y h = ap numbers_of h
 
 -- ---- how many siblings there are
 

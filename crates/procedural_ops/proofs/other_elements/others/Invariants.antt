@@ -5,7 +5,7 @@ use Rattle.selector_meaning.specs.Meaning.{is_other}
 use Rattle.selector_match.specs.Asked.{IsElement}
 use Rattle.selector_match.specs.Walks.{elements_behind, order}
 use Rattle.selector_match.proofs.Walking.{from_one}
-use Rattle.procedural_ops.proofs.beside.others.Given as goal
+use Rattle.procedural_ops.proofs.other_elements.others.Given as goal
 
 abbrev pub invariant-elements : goal.invariant-elements
 invariant-elements l = record {
