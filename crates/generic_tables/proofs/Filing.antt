@@ -5,7 +5,7 @@ use Rattle.std.specs.List.{list_any}
 use Rattle.std.specs.Str.{bytes_eq}
 use Rattle.std.proofs.Math.Bool as bool
 use Rattle.std.specs.List.Sorted.{IsPartitionPoint}
-use Rattle.std.proofs.lemmas.Bool.{cases_Bool, eqb-true, eq-eqb, ltb-true, ltb-false, leb-false, false≢true}
+use Rattle.std.proofs.lemmas.Bool.{cases_Bool, eqb-true, eq-eqb, ltb-true, ltb-false, leb-false, or_left, or_right, false≢true}
 use Rattle.std.proofs.lemmas.List.{get_or-drop, length-drop}
 use Rattle.std.proofs.lemmas.Bool.Decides.{nat_tests}
 use Rattle.std.proofs.lemmas.Slice.Eq.{bytes_eq-Decides}
@@ -135,6 +135,14 @@ at_run n entries behind run start count s c b r first last f =
         subst (λ m. n ≤ m) (sym place) (ltb-false _ _ (first.1 (start + k) d (omega arith) there))
 
 -- ---- the filters of a key
+-- some chain's key passes a test
+pub chain_found : (test : Key → Bool) (selector : List (List Step)) (i : ℕ) (chain : List Step) → i < length selector → test (key_of_chain (get_or selector i chain)) ≡ true →
+    list_any test (map key_of_chain selector) ≡ true
+chain_found test [] i chain within h = absurd (omega (arith, within))
+chain_found test (first ∷ selector) zero chain within h = or_left (test (key_of_chain first)) (list_any test (map key_of_chain selector)) h
+chain_found test (first ∷ selector) (suc i) chain within h =
+    or_right (test (key_of_chain first)) (list_any test (map key_of_chain selector)) (chain_found test selector i chain (omega (arith, within)) h)
+
 zero_not : (m : ℕ) → (m + 1 == 0) ≡ false
 zero_not m = grind (arith, nat_tests)
 
