@@ -5,7 +5,7 @@ ghost use Rattle.page_tree.specs.Standings.{all};
 ghost use Rattle.page_tree.specs.Directions.{is_in};
 ghost use Rattle.selector_match.specs.Asked.{IsElement};
 ghost use Rattle.generic_tables.specs.Carried.{key_in};
-ghost use Rattle.generic_tables.specs.Tables.{is_filed};
+ghost use Rattle.generic_tables.specs.FilterTables.{has_key, IsTableOf};
 ghost use Rattle.kept_marks.specs.Kept.{is_marked, Sets, IsSame};
 ghost use Rattle.retest_laws.specs.Pending.{asked_again, due_at, budget, IsRightBut, IsExact};
 ghost use Rattle.retest.specs.Asked.{answers, carried, group_in, pends, IsReady, AreRightFor};
@@ -83,19 +83,21 @@ fn add_due<W: Pends>(
     pending: &W,
     x: u32,
 ) -> Result<(), AllocError>
-    requires { IsElement asking.now.context.dom.now x }
+    requires table { IsTableOf asking.now.active.now asking.now.keyed.now }
+    requires element { IsElement asking.now.context.dom.now x }
     ensures within { OnOk result ((f : ℕ) → list_any (nat_eq f) due.new.keys ≡ true →
-        (list_any (nat_eq f) due.old.keys || (is_filed asking.now.keyed.now (key_in key.entry) f
+        (list_any (nat_eq f) due.old.keys || (has_key asking.now.active.now (key_in key.entry) f
         && W.pends pending.now (group_in asking.now.groups.now f) x)) ≡ true) }
     ensures enough { OnOk result ((f : ℕ) →
-        (list_any (nat_eq f) due.old.keys || (is_filed asking.now.keyed.now (key_in key.entry) f
+        (list_any (nat_eq f) due.old.keys || (has_key asking.now.active.now (key_in key.entry) f
         && (W.pends pending.now (group_in asking.now.groups.now f) x
         && answers asking.now f x))) ≡ true →
         list_any (nat_eq f) due.new.keys ≡ true) }
 {
-    for f in asking.keyed.filters_for(key) {
-        if is_due(asking, key, *f, pending, x) {
-            due.insert(*f)?;
+    let mut filters = asking.keyed.filters_for(asking.active, key);
+    'filters: while let Some(f) = filters.next() {
+        if is_due(asking, key, f, pending, x) {
+            due.insert(f)?;
         }
     }
     Ok(())
