@@ -8,7 +8,8 @@ use Rattle.regex_syntax.specs.Grammar.{Names, read}
 use Rattle.regex_syntax.specs.declared.Config.{Config}
 use Rattle.regex_syntax.specs.declared.flags.Flags.{Flags}
 use Rattle.regex_syntax.specs.Verdict.{default_config, default_flags}
-use Rattle.regex.specs.Strings.{regex_source, regex_config, IsReadFromSource}
+use Rattle.regex.specs.Strings.{regex_source, regex_config, regex_pattern, matcher_pattern, IsReadFromSource}
+use Rattle.regex.specs.declared.string.matcher.Matcher.{Matcher}
 use Rattle.regex.specs.declared.string.regex.Regex.{Regex}
 
 -- flags are a sum of 1 for i, 2 for m and 4 for s; the other flags are those that `Regex::new` has
@@ -49,3 +50,9 @@ pub record IsPatternOf (body : List ℕ) (flags : ℕ) (regex : Regex) : Type 0 
   pub source : regex_source regex ≡ body
   pub config : regex_config regex ≡ config_of flags
   pub read : IsReadFromSource regex
+
+-- the matcher looks for a compiled pattern that is what the grammar reads in this body under these flags
+pub record IsMatcherOf (body : List ℕ) (flags : ℕ) (matcher : Matcher) : Type 0 where
+  pub regex : Regex
+  pub is : IsPatternOf body flags regex
+  pub pattern : matcher_pattern matcher ≡ regex_pattern regex

@@ -1,9 +1,9 @@
 ghost use Rattle.std.specs.Prelude.{◌≡◌, IfOk};
-ghost use Rattle.cos_patterns.specs.Found.{pattern_found, IsPatternOf};
+ghost use Rattle.cos_patterns.specs.Found.{IsMatcherOf, IsPatternOf};
+ghost use Rattle.cos_patterns.specs.Written.{is_same};
 
 use crate::Written;
-use crate::read::finds;
-use regex::Regex;
+use regex::{Matcher, Regex};
 use std::alloc::{AllocError, Global};
 use std::marker::Model;
 
@@ -34,16 +34,18 @@ impl Entry {
         Entry { written, regex }
     }
 
-    // Whether it is found in a text.
-    pub fn finds(&self, alloc: Global, text: &str) -> Result<bool, AllocError>
-        ensures { IfOk result (λ found. found ≡ pattern_found self.now.body self.now.flags text.now) }
+    // Memory to search for it in.
+    pub fn matcher(&self, alloc: Global) -> Result<Matcher<'_>, AllocError>
+        ensures { IfOk result (IsMatcherOf self.now.body self.now.flags) }
     {
-        finds(
-            alloc,
-            &self.regex,
-            self.written.body.as_str(),
-            self.written.flags,
-            text,
-        )
+        self.regex.matcher(alloc)
+    }
+
+    // Whether another one is written in the same way.
+    pub fn is_same(&self, other: &Entry) -> bool
+        ensures { result ≡ is_same self.now other.now }
+    {
+        self.written.body.as_str() == other.written.body.as_str()
+            && self.written.flags == other.written.flags
     }
 }

@@ -14,6 +14,7 @@ mod listed_maker;
 mod maker;
 mod notes;
 mod read;
+mod searcher;
 mod table;
 mod written;
 
@@ -22,6 +23,7 @@ pub use crate_maker::CrateMaker;
 pub use errors::{MakeError, PatternError};
 pub use listed_maker::ListedMaker;
 pub use maker::Maker;
+pub use searcher::PatternSearcher;
 pub use table::PatternTable;
 pub use written::{Asked, Written};
 
@@ -50,7 +52,7 @@ mod tests {
         if table.put(&mut maker, pattern, flags) != Ok(number) {
             return Err(Fail::from("another number"));
         }
-        Ok(table.finds(number, text)?)
+        Ok(PatternSearcher::new(&table).finds(number, text)?)
     }
 
     #[test]

@@ -1,11 +1,11 @@
 // What the grammar of `regex` and the parser of `url` read in a text.
 ghost use Rattle.std.specs.Prelude.{◌≡◌, ◌<◌, IfOk, IsErrOf};
-ghost use Rattle.cos_patterns.specs.Found.{pattern_found, IsPatternOf, IsUnreadable};
+ghost use Rattle.cos_patterns.specs.Found.{IsPatternOf, IsUnreadable};
 ghost use Rattle.cos_patterns.specs.Makers.{IsAddressOf, IsNoAddress};
 
 use crate::MakeError;
 use regex::{Error, Regex, RegexBuilder};
-use std::alloc::{AllocError, Global};
+use std::alloc::Global;
 use url::{ParseError, Url};
 
 // The pattern that the grammar reads in the text under the flags.
@@ -41,19 +41,4 @@ pub(crate) fn read_address(alloc: Global, text: &str) -> Result<Url, MakeError>
         Err(ParseError::OutOfMemory) => Err(MakeError::NoMemory),
         Err(_) => Err(MakeError::Unreadable),
     }
-}
-
-// Whether the pattern of this text and these flags is found in a text.
-pub(crate) fn finds(
-    alloc: Global,
-    regex: &Regex,
-    body: &str,
-    flags: u8,
-    text: &str,
-) -> Result<bool, AllocError>
-    requires { IsPatternOf body.now flags regex.now }
-    ensures { IfOk result (λ found. found ≡ pattern_found body.now flags text.now) }
-{
-    let mut matcher = regex.matcher(alloc)?;
-    Ok(matcher.is_match(text))
 }

@@ -1,16 +1,16 @@
-ghost use Rattle.std.specs.Prelude.{◌≡◌, ◌+◌, ◌<◌, ◌↔◌, [], ◌∷◌, ◌++◌, List, length, false, IsTrue, IfOk, OnOk, OnErr, IsErrOf, is_ok, vec_len, vec_capacity};
+ghost use Rattle.std.specs.Prelude.{◌≡◌, ◌+◌, ◌<◌, ◌↔◌, [], ◌∷◌, ◌++◌, List, Some, length, slice_get, false, IsTrue, IfOk, OnOk, OnErr, IsErrOf, is_ok, vec_len, vec_capacity};
 ghost use Rattle.cos_patterns.specs.declared.written.Asked.{Asked};
 ghost use Rattle.cos_patterns.specs.declared.written.Written.{Written};
 ghost use Rattle.cos_patterns.specs.Found.{is_read};
 ghost use Rattle.cos_patterns.specs.Makers.{UnlessNoMemory};
 ghost use Rattle.cos_patterns.specs.Notes.{Says};
-ghost use Rattle.cos_patterns.specs.Tables.{Agrees, Extends, is_noted, with_pattern, patterns_in, found_at, said_of};
+ghost use Rattle.cos_patterns.specs.Tables.{Agrees, Extends, is_noted, with_pattern, patterns_in, said_of};
 ghost use Rattle.cos_patterns.specs.Written.{written, is_in, is_same, place_of};
 
 use crate::entry::Entry;
 use crate::notes::{Note, Notes};
 use crate::{MakeError, Maker, PatternError, Written};
-use std::alloc::{AllocError, Global};
+use std::alloc::Global;
 use std::marker::Model;
 
 /// Patterns by number, each made once.
@@ -181,12 +181,17 @@ impl PatternTable {
         }
     }
 
-    /// Whether the pattern of a number that `put` gave is found in a text.
-    pub fn finds(&self, number: u32, text: &str) -> Result<bool, AllocError>
+    // The pattern of a number that `put` gave.
+    pub(crate) fn entry(&self, number: u32) -> &Entry
         requires { number < length self.now.patterns }
-        ensures { IfOk result (λ found. found ≡ found_at self.now.patterns number text.now) }
+        ensures { Some result.now ≡ slice_get self.now.patterns number }
     {
-        self.patterns[number as usize].finds(self.alloc, text)
+        &self.patterns[number as usize]
+    }
+
+    // What the table takes its memory from.
+    pub(crate) fn alloc(&self) -> Global {
+        self.alloc
     }
 }
 

@@ -4,3 +4,4 @@ pub mod Written
 pub mod WordCuts
 pub mod Entering
 pub mod Unnumbered
+pub mod Filing

@@ -1,9 +1,8 @@
--- The elements that stand under keys, and the filters.
+-- The elements that stand under keys.
 use Rattle.std.specs.Prelude.{◌≡◌, ℕ, Bool, false, List}
 use Rattle.page_tree.specs.Forest.{Tree}
 use Rattle.generic_tables.specs.declared.keys.Key.{Key}
 use Rattle.generic_tables.specs.declared.tables.Tables.{Tables}
-use Rattle.generic_tables.specs.declared.filters.FilterTable.{FilterTable}
 use Rattle.generic_tables.specs.Keys.{carries}
 use Rattle.generic_tables.specs.Filed.{holders, holds}
 
@@ -26,11 +25,3 @@ IsAsIn t tables x = (k : Key) → stands_under tables k x ≡ carries t k x
 -- under each key stand the elements that stood there
 abbrev pub HasSame : Tables → Tables → Type 0
 HasSame old new = (k : Key) (x : ℕ) → stands_under new k x ≡ stands_under old k x
-
--- the filters under a key
-abbrev pub filters_under : FilterTable → Key → List ℕ
-filters_under table k = holders table.filed k
-
--- whether a filter stands under a key
-abbrev pub is_filed : FilterTable → Key → ℕ → Bool
-is_filed table k f = holds table.filed k f

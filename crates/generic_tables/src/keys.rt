@@ -1,12 +1,12 @@
-ghost use Rattle.std.specs.Prelude.{◌≡◌, map, IfOk};
+ghost use Rattle.std.specs.Prelude.{◌≡◌, map};
+ghost use Rattle.std.specs.List.{list_any};
 ghost use Rattle.std.specs.Option.{option_copied};
-ghost use Rattle.generic_tables.specs.Carried.{key_in};
+ghost use Rattle.generic_tables.specs.Carried.{key_in, same_key};
 ghost use Rattle.generic_tables.specs.Keys.{key_of_chain, kept_test, first_value, value_in, value_of, last_tests};
 
 use crate::carried::KeyRef;
-use listed::{Listed, Text};
-use selector_tree::{Chain, Filter, Step, Test};
-use std::alloc::{AllocError, Global};
+use listed::Text;
+use selector_tree::{Chain, Step, Test};
 
 /// What an element must have so that a chain can select it.
 #[derive(Debug, Drop)]
@@ -35,9 +35,6 @@ impl Key {
     }
 }
 
-/// The keys of a filter, one for each chain.
-pub type Keys = Listed<Key>;
-
 // Which value is looked for.
 #[derive(Clone, Copy)]
 enum Kind {
@@ -46,32 +43,46 @@ enum Kind {
     Name,
 }
 
-/// The keys of a filter, one for each chain in order: the first id among the tests behind the chain's last step that is no
-/// test, else the first class, else the first name, else none.
-pub fn keys_of(alloc: Global, filter: &Filter) -> Result<Keys, AllocError>
-    ensures { IfOk result (λ keys. keys ≡ map key_of_chain filter.now.selector) }
-{
-    let mut keys = Keys::new(alloc);
-    for chain in filter.selector.as_slice() {
-        keys.push(key_of_chain(alloc, chain)?)?;
-    }
-    Ok(keys)
-}
-
-// The key of a chain.
-fn key_of_chain(alloc: Global, chain: &Chain) -> Result<Key, AllocError>
-    ensures { IfOk result (λ key. key ≡ key_of_chain chain.now) }
+/// The key of a chain, lent: the first id among the tests behind the chain's last step that is no test, else the first class,
+/// else the first name, else that of nothing.
+pub fn key_of(chain: &Chain) -> KeyRef<'_>
+    ensures { key_in result ≡ key_of_chain chain.now }
 {
     let steps = chain.as_slice();
     if let Some(id) = first_value(steps, Kind::Id) {
-        return Ok(Key::Id(id.copy(alloc)?));
+        return KeyRef::Id(id.as_str());
     }
     if let Some(class) = first_value(steps, Kind::Class) {
-        return Ok(Key::Class(class.copy(alloc)?));
+        return KeyRef::Class(class.as_str());
     }
     match first_value(steps, Kind::Name) {
-        Some(name) => Ok(Key::Name(name.copy(alloc)?)),
-        None => Ok(Key::None),
+        Some(name) => KeyRef::Name(name.as_str()),
+        None => KeyRef::None,
+    }
+}
+
+// Whether one of some chains has a key.
+pub(crate) fn has_chain(selector: &[Chain], key: KeyRef<'_>) -> bool
+    ensures { result ≡ list_any (same_key (key_in key.entry)) (map key_of_chain selector.now) }
+{
+    for chain in selector {
+        if is_same(key, key_of(chain)) {
+            return true;
+        }
+    }
+    false
+}
+
+// Whether two keys are one.
+fn is_same(a: KeyRef<'_>, b: KeyRef<'_>) -> bool
+    ensures { result ≡ same_key (key_in a.entry) (key_in b.entry) }
+{
+    match (a, b) {
+        (KeyRef::Class(a), KeyRef::Class(b)) => a == b,
+        (KeyRef::Id(a), KeyRef::Id(b)) => a == b,
+        (KeyRef::Name(a), KeyRef::Name(b)) => a == b,
+        (KeyRef::None, KeyRef::None) => true,
+        _ => false,
     }
 }
 

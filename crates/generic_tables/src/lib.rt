@@ -1,8 +1,8 @@
 //! Which elements a filter can select at all, found by classes, ids and names.
 //!
-//! `keys_of` gives the keys of a filter, one for each chain: what the filter selects carries one of them. `Tables` has the
-//! elements of a page by the keys that they carry, `FilterTable` filters by the keys of their chains, and `keys_at` goes
-//! through the keys of an element. Each look-up is by a key that is lent, and copies no text.
+//! `key_of` gives the key of a chain: what a filter selects carries the key of one of its chains. `Tables` has the elements of a
+//! page by the keys that they carry, `FilterTable` filters by the keys of their chains, and `keys_at` goes through the keys of
+//! an element. Each look-up is by a key that is lent, and copies no text.
 #![tactic(auto)]
 
 ghost use Rattle.generic_tables.specs.Keys.{KeyLaw};
@@ -11,6 +11,7 @@ ghost use Rattle.generic_tables.specs.Carried.{CarriedLaw, FoundLaw};
 mod carried;
 mod filed;
 mod filters;
+mod key_numbers;
 mod keys;
 mod numbers;
 mod tables;
@@ -18,8 +19,8 @@ mod words;
 
 pub use carried::{ElementKeys, KeyRef, keys_at};
 pub use filed::Filed;
-pub use filters::FilterTable;
-pub use keys::{Key, Keys, keys_of};
+pub use filters::{FilterTable, FiltersFor};
+pub use keys::{Key, key_of};
 pub use numbers::NumberSet;
 pub use tables::Tables;
 

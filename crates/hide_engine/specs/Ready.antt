@@ -11,6 +11,7 @@ use Rattle.mutation_script.specs.declared.page.PageState.{PageState}
 use Rattle.sensor_meaning.specs.declared.change.Change.{Change}
 use Rattle.sensor_meaning.specs.Changes.{Becomes}
 use Rattle.sensor_meaning.specs.Dirty.{is_under}
+use Rattle.generic_tables.specs.FilterTables.{IsTableOf}
 use Rattle.kept_marks.specs.Kept.{is_marked}
 use Rattle.retest.specs.Asked.{group_in}
 use Rattle.retest.specs.Noted.{Noted, is_pending}
@@ -22,16 +23,16 @@ use Rattle.hide_engine.specs.declared.filter_set.FilterSet.{FilterSet}
 use Rattle.hide_engine.specs.declared.planned.Planned.{Planned}
 use Rattle.hide_engine.specs.declared.planned.Planned.TheVariants.{Known, Comes}
 use Rattle.hide_engine.specs.Changes.{change_of}
-use Rattle.hide_engine.specs.Exact.{is_selected, AreExact, AreFiled}
+use Rattle.hide_engine.specs.Exact.{is_selected, AreExact}
 use Rattle.hide_engine.specs.Groups.{AreGrouped}
 
 abbrev pub state_of : PageState → FilterSet → State
 state_of page filters = record { page = page; filters = filters.active }
 
--- the filters may be asked, they stand under their keys, each is in the group of its sensors, and it is known whether one removes
+-- the filters may be asked, they are found by their keys, each is in the group of its sensors, and it is known whether one removes
 pub record AreReady (filters : FilterSet) : Type 0 where
   pub askable : AreAskable filters.table.patterns filters.active
-  pub filed : AreFiled filters.active filters.keyed
+  pub filed : IsTableOf filters.active filters.keyed
   pub grouped : AreGrouped filters.active filters.groups.sets.items filters.groups.numbers
   pub removing : filters.removes ≡ list_any is_remove filters.active
 

@@ -8,6 +8,7 @@ ghost use Rattle.retest.specs.Priced.{price, IsPriced};
 
 use crate::filter_set::FilterSet;
 use cos_outside::Steps;
+use cos_patterns::PatternSearcher;
 use kept_marks::Marks;
 use mutation_script::PageState;
 use procedural_ops::MatchingContext;
@@ -33,12 +34,14 @@ pub(crate) fn ask_again<L: Ledger, P: Ledger>(
     ensures parts { IsPriced (price filters.now.active page.now.tree) checks.old checks.new parts.old parts.new }
     ensures same { IfOk result (λ changed. changed ≡ false → IsSame marks.old marks.new) }
 {
+    // One searcher for all that is asked here, so that a pattern's working memory isn't made for each element.
+    let table = PatternSearcher::new(&filters.table);
     let asking = Asking {
         context: MatchingContext {
             alloc,
             dom: &page.tree,
             path: page.path.as_str(),
-            table: &filters.table,
+            table: &table,
         },
         active: &filters.active,
         keyed: &filters.keyed,
@@ -60,12 +63,14 @@ pub(crate) fn ask_everything<L: Ledger, P: Ledger>(
     ensures checks { checks.new ≤ checks.old + start_budget (state_of page.now filters.now) }
     ensures parts { IsPriced (price filters.now.active page.now.tree) checks.old checks.new parts.old parts.new }
 {
+    // One searcher for all that is asked here, so that a pattern's working memory isn't made for each element.
+    let table = PatternSearcher::new(&filters.table);
     let asking = Asking {
         context: MatchingContext {
             alloc,
             dom: &page.tree,
             path: page.path.as_str(),
-            table: &filters.table,
+            table: &table,
         },
         active: &filters.active,
         keyed: &filters.keyed,

@@ -1,7 +1,6 @@
-ghost use Rattle.std.specs.Prelude.{◌≡◌, ◌<◌, ◌^◌, length, IfOk};
+ghost use Rattle.std.specs.Prelude.{◌≡◌, IfOk};
 ghost use Rattle.std.specs.List.{list_any};
 ghost use Rattle.engine_meaning.specs.Filters.{is_remove, AreAskable};
-ghost use Rattle.hide_engine.specs.Exact.{AreFiled};
 ghost use Rattle.hide_engine.specs.Ready.{AreReady};
 
 use crate::groups::Groups;
@@ -33,7 +32,7 @@ impl FilterSet {
         ensures active { IfOk result (λ set. set.active ≡ active) }
         ensures ready { IfOk result (λ set. AreReady set) }
     {
-        let keyed = filed(alloc, &active)?;
+        let keyed = FilterTable::of(alloc, &active)?;
         let groups = Groups::of(alloc, &active)?;
         let removes = some_removes(&active);
         Ok(FilterSet {
@@ -44,18 +43,6 @@ impl FilterSet {
             removes,
         })
     }
-}
-
-// The filters by the keys of their chains.
-fn filed(alloc: Global, active: &Active) -> Result<FilterTable, AllocError>
-    requires { length active.now < 2 ^ 32 }
-    ensures { IfOk result (λ keyed. AreFiled active.now keyed) }
-{
-    let mut keyed = FilterTable::new(alloc);
-    for place in 0..active.len() as u32 {
-        keyed.enter(place, &active.as_slice()[place as usize])?;
-    }
-    Ok(keyed)
 }
 
 // Whether one of some filters removes what it selects.

@@ -2,7 +2,7 @@
 use dom_arena::{Attrs, Dom, DomError, NewNode};
 use generic_tables::{FilterTable, Key, KeyRef, Tables};
 use listed::{Listed, Text};
-use selector_tree::{Action, Filter, Step, Test};
+use selector_tree::{Action, Active, Filter, Step, Test};
 use std::alloc::{AllocError, Global};
 use std::test::Fail;
 
@@ -25,10 +25,9 @@ fn elements_stand_under_their_keys(rt: HostRuntime) -> Result<(), Fail> {
     Ok(())
 }
 
-// .a
-fn filter(alloc: Global) -> Result<Filter, AllocError> {
+fn filter(alloc: Global, test: Test) -> Result<Filter, AllocError> {
     let mut chain = Listed::new(alloc);
-    chain.push(Step::Keep(Test::Class(Text::of(alloc, "a")?)))?;
+    chain.push(Step::Keep(test))?;
     let mut selector = Listed::new(alloc);
     selector.push(chain)?;
     let canonical = Text::new(alloc);
@@ -44,8 +43,18 @@ fn filter(alloc: Global) -> Result<Filter, AllocError> {
 #[test]
 fn filters_stand_under_their_keys(rt: HostRuntime) -> Result<(), Fail> {
     let alloc = rt.alloc();
-    let mut table = FilterTable::new(alloc);
-    table.enter(7, &filter(alloc)?)?;
-    assert_eq!(rt; table.filters_for(KeyRef::Class("a")), [7].as_slice());
+    let mut active = Active::new(alloc);
+    active.push(filter(alloc, Test::Tag(Text::of(alloc, "a")?))?)?;
+    active.push(filter(alloc, Test::Any)?)?;
+    active.push(filter(alloc, Test::Class(Text::of(alloc, "a")?))?)?;
+    let table = FilterTable::of(alloc, &active)?;
+    let mut classes = table.filters_for(&active, KeyRef::Class("a"));
+    assert_eq!(rt; classes.next(), Some(2));
+    assert_eq!(rt; classes.next(), None);
+    let mut unnamed = table.filters_for(&active, KeyRef::None);
+    assert_eq!(rt; unnamed.next(), Some(1));
+    assert_eq!(rt; unnamed.next(), None);
+    let mut ids = table.filters_for(&active, KeyRef::Id("a"));
+    assert_eq!(rt; ids.next(), None);
     Ok(())
 }

@@ -5,7 +5,7 @@ ghost use Rattle.procedural_ops.specs.Others.{AreRight};
 ghost use Rattle.procedural_ops.specs.Told.{selector_at};
 
 use cos_outside::Steps;
-use cos_patterns::{CrateMaker, PatternTable};
+use cos_patterns::{CrateMaker, PatternSearcher, PatternTable};
 use dom_arena::Dom;
 use listed::{Numbers, Text};
 use procedural_ops::{MatchingContext, test};
@@ -61,11 +61,12 @@ pub(crate) fn is_selected<L: Ledger, P: Ledger>(
         return Err(Fail::from("no element"));
     }
     let (table, active) = filter(alloc, text.as_str())?;
+    let searcher = PatternSearcher::new(&table);
     let context = MatchingContext {
         alloc,
         dom,
         path: "/",
-        table: &table,
+        table: &searcher,
     };
     let mut members = Members::new(alloc);
     let verdict = test(
@@ -99,11 +100,12 @@ pub(crate) fn all_selected<L: Ledger, P: Ledger>(
     let mut checks = Steps::<L>::new(checks);
     let mut parts = Steps::<P>::new(parts);
     let (table, active) = filter(alloc, text.as_str())?;
+    let searcher = PatternSearcher::new(&table);
     let context = MatchingContext {
         alloc,
         dom,
         path: "/",
-        table: &table,
+        table: &searcher,
     };
     let mut members = Members::new(alloc);
     selected_to(

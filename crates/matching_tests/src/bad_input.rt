@@ -75,6 +75,30 @@ fn long_chains_are_answered(rt: HostRuntime) -> Result<(), Fail> {
 }
 
 #[test]
+fn walks_down_and_on_are_answered(rt: HostRuntime) -> Result<(), Fail> {
+    let alloc = rt.alloc();
+    let dom = page(alloc, "<b></b><b>", 100, "<i class=y></i>")?;
+    for (front, part, count, end, x, expected) in [
+        ("b:has(b ~ b", " b ~ b", 12, " ~ u)", 2, false),
+        ("b:has(b ~ b", " b ~ b", 12, " .y)", 2, true),
+        ("b:has(b ~ b", " b ~ b", 12, " .y)", 180, false),
+        ("b:has(~ b", " b ~ b", 12, " .x)", 1, false),
+    ] {
+        let filter = repeated(alloc, front, part, count, end)?;
+        let selected = is_selected::<Brand, Brand>(
+            alloc,
+            &dom,
+            &filter,
+            x,
+            Blank::new(1),
+            Blank::new(1),
+        )?;
+        assert_eq!(rt; selected, expected, "{}", filter.as_str());
+    }
+    Ok(())
+}
+
+#[test]
 fn many_siblings_are_gone_through(rt: HostRuntime) -> Result<(), Fail> {
     let alloc = rt.alloc();
     let dom = page(alloc, "<b class=x></b>", 3_000, "")?;

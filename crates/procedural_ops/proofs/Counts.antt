@@ -10,8 +10,8 @@ use Rattle.page_tree.specs.Standings.{all}
 use Rattle.page_tree.specs.Directions.{is_in}
 use Rattle.selector_meaning.specs.Texts.{Bytes}
 use Rattle.procedural_ops.specs.Climbing.{at_next}
-use Rattle.procedural_ops.specs.Once.{to_child, to_next, left_beside_of, level, most_left, children_behind, nexts_behind, rank, IsPast, IsFurther, GoesFurther}
-use Rattle.procedural_ops.specs.Standing.{left_beside, StandsAt}
+use Rattle.procedural_ops.specs.Once.{to_child, to_next, left_at_sibling_of, level, most_left, children_behind, nexts_behind, rank, IsPast, IsFurther, GoesFurther}
+use Rattle.procedural_ops.specs.Standing.{left_at_sibling, StandsAt}
 use Rattle.procedural_ops.specs.declared.climb.Point.{Point}
 use Rattle.procedural_ops.specs.Count.{asks, many_asked, many_passing, still, is_past, unasked, unasked_at, unasked_in}
 use Rattle.procedural_ops.specs.declared.climb.Climb.{Climb}
@@ -209,7 +209,7 @@ module _ (t : Tree) (path : Bytes) (steps : List Step) where
         still_le (Before c) (Before d) (all t) on (drop c.here.left steps) (length run + k),
       )
     where
-      few : (o : Option Point) → c.here.left ≤ left_beside t path steps o c.here.left → c.here.left ≤ left_beside_of o c.here.left
+      few : (o : Option Point) → c.here.left ≤ left_at_sibling t path steps o c.here.left → c.here.left ≤ left_at_sibling_of o c.here.left
       few None h = omega arith
       few (Some q) h = h
 

@@ -23,8 +23,8 @@ use Rattle.cos_patterns.specs.Found.{pattern_found}
 use Rattle.selector_meaning.specs.Texts.{Bytes}
 use Rattle.selector_meaning.specs.Meaning.{StepMeaning, TestMeaning, ChainMeaning, run, front, rest, gives, leads, option_is, ancestor, holds, step_meaning, test_meaning, from_some, is_there, selected_by, selects, is_other, is_apart, is_beside, is_shown}
 use Rattle.selector_meaning.proofs.Laws.{step_of-Keep, step_of-Move, step_of-Others, holds-Is, holds-Not, holds-Has}
-use Rattle.selector_match.specs.Asked.{below, near, sources}
-use Rattle.selector_match.proofs.Beside.{is_there-sources}
+use Rattle.selector_match.specs.Asked.{below, is_one_step, sources}
+use Rattle.selector_match.proofs.Siblings.{is_there-sources}
 use Rattle.proper_filters.specs.Proper.{are_inner}
 use Rattle.procedural_ops.specs.Reaching.{meaning, chain_meaning, reached, leads_from, chain_gives, some_gives, some_leads, is_selected, goes_up, goes_up_at, first_up_of, lifted, lifted_at}
 use Rattle.procedural_ops.specs.Search.{some_source, some_target, some_lifted}
@@ -165,25 +165,25 @@ module _ (t : Tree) (path : Bytes) where
       pub reached_moved : (place : Place) → last ≡ step.Move place → is_in (reached t path steps) x ≡ some_source t place (is_in (reached t path before)) x
       reached_moved place e =
           by_law _ (ap (meaning t path) e ∙ step_of-Move pattern_found t path place) ∙ from_law (is_there t place)
-          ∙ same_by_iff (list_any (λ y. is_there t place y x) (reached t path before)) (list_any (is_in (reached t path before)) near_sources)
+          ∙ same_by_iff (list_any (λ y. is_there t place y x) (reached t path before)) (list_any (is_in (reached t path before)) step_sources)
           (λ h. let r = any-found (λ y. is_there t place y x) (reached t path before) h in
-          any-made (is_in (reached t path before)) near_sources r.0 (sym (there_in r.0) ∙ r.2) r.1)
-          (λ h. let r = any-found (is_in (reached t path before)) near_sources h in
+          any-made (is_in (reached t path before)) step_sources r.0 (sym (there_in r.0) ∙ r.2) r.1)
+          (λ h. let r = any-found (is_in (reached t path before)) step_sources h in
           any-made (λ y. is_there t place y x) (reached t path before) r.0 r.2 (there_in r.0 ∙ r.1))
         where
-          near_sources : List ℕ
-          near_sources = if near place then take 1 (sources t place x) else sources t place x
+          step_sources : List ℕ
+          step_sources = if is_one_step place then take 1 (sources t place x) else sources t place x
 
           first_only : (l : List ℕ) (y : ℕ) → head_is l y ≡ is_in (take 1 l) y
           first_only [] y = refl
           first_only (m ∷ l) y = sym (off (m == y))
 
-          by_near : (b : Bool) (l : List ℕ) (y : ℕ) → cond b (head_is l y) (is_in l y) ≡ is_in (if b then take 1 l else l) y
-          by_near true l y = first_only l y
-          by_near false l y = refl
+          by_one_step : (b : Bool) (l : List ℕ) (y : ℕ) → cond b (head_is l y) (is_in l y) ≡ is_in (if b then take 1 l else l) y
+          by_one_step true l y = first_only l y
+          by_one_step false l y = refl
 
-          there_in : (y : ℕ) → is_there t place y x ≡ is_in near_sources y
-          there_in y = is_there-sources t place y x ∙ by_near (near place) (sources t place x) y
+          there_in : (y : ℕ) → is_there t place y x ≡ is_in step_sources y
+          there_in y = is_there-sources t place y x ∙ by_one_step (is_one_step place) (sources t place x) y
 
   -- ---- steps that go up
 
@@ -257,12 +257,6 @@ module _ (t : Tree) (path : Bytes) where
             | true ↦ off (leads_from t path more x)
             | false ↦ refl
           ]
-
-      pub leads_kept : (q : Test) → first ≡ step.Keep q → (b c : Bool) → b ≡ holds pattern_found t path q x → b ≡ true → c ≡ leads_from t path more x → c ≡ leads_from t path steps x
-      leads_kept q e b c h holds_it f = f ∙ sym (keep_front q e ∙ ap (λ d. d && leads_from t path more x) (sym h ∙ holds_it))
-
-      pub leads_dropped : (q : Test) → first ≡ step.Keep q → (b : Bool) → b ≡ holds pattern_found t path q x → b ≡ false → false ≡ leads_from t path steps x
-      leads_dropped q e b h fails = sym (keep_front q e ∙ ap (λ d. d && leads_from t path more x) (sym h ∙ fails))
 
       pub leads_moved : (place : Place) → first ≡ step.Move place → leads_from t path steps x ≡ some_target t place (leads_from t path more) x
       leads_moved place e =

@@ -1,6 +1,5 @@
 -- How much a search that climbs has still to ask.
 use Rattle.std.specs.Prelude.{ℕ, suc, ◌+◌, Bool, true, false, ◌&&◌, ◌||◌, ◌==◌, not, nat_lt, cond, List, [], ◌∷◌, Option, Some, None}
-use Rattle.std.specs.List.{list_all}
 use Rattle.selector_tree.specs.declared.selector.Step.{Step, out-Step}
 use Rattle.selector_tree.specs.declared.selector.Step.TheOpen.{Step-F}
 use Rattle.selector_tree.specs.declared.selector.Test.{Test}
@@ -33,10 +32,6 @@ is_plain_step_at _ = false
 
 abbrev pub is_plain_step : Step → Bool
 is_plain_step s = is_plain_step_at (out-Step s)
-
--- each chain of the selector is of such steps
-abbrev pub are_plain : List (List Step) → Bool
-are_plain l = list_all (list_all is_plain_step) l
 
 -- the step asks a test of this cost
 abbrev pub costs_at : Cost → Step-F Step Test → Bool

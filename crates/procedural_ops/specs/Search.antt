@@ -6,14 +6,14 @@ use Rattle.selector_tree.specs.declared.selector.Step.{Step}
 use Rattle.page_tree.specs.Forest.{Tree}
 use Rattle.selector_meaning.specs.Texts.{Bytes}
 use Rattle.selector_meaning.specs.Meaning.{option_is}
-use Rattle.selector_match.specs.Asked.{below, near, sources}
+use Rattle.selector_match.specs.Asked.{below, is_one_step, sources}
 use Rattle.procedural_ops.specs.Reaching.{lifted}
 use Rattle.selector_match.specs.Walks.{elements_behind, targets}
 
 module _ (t : Tree) where
   -- an element from which the combinator leads to x passes
   abbrev pub some_source : Place → (ℕ → Bool) → ℕ → Bool
-  some_source place test x = list_any test (if near place then take 1 (sources t place x) else sources t place x)
+  some_source place test x = list_any test (if is_one_step place then take 1 (sources t place x) else sources t place x)
 
   -- an element to which the combinator leads from x passes
   abbrev pub some_target : Place → (ℕ → Bool) → ℕ → Bool

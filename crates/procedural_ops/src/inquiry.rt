@@ -1,14 +1,9 @@
-use cos_patterns::PatternTable;
-use dom_arena::Dom;
+use crate::context::MatchingContext;
 use selector_tree::Step;
-use std::alloc::Global;
 
-/// What is asked about: a page and the path of its address, the patterns, and the chain whose tests have notes.
+/// What is asked about, and the chain whose tests have notes.
 #[derive(Clone, Copy)]
-pub(crate) struct Inquiry<'a> {
-    pub(crate) alloc: Global,
-    pub(crate) dom: &'a Dom,
-    pub(crate) path: &'a str,
-    pub(crate) table: &'a PatternTable,
+pub(crate) struct Inquiry<'a, 'p> {
+    pub(crate) context: MatchingContext<'a, 'p>,
     pub(crate) chain: &'a [Step],
 }

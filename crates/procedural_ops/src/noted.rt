@@ -23,21 +23,25 @@ use std::sync::ledger::Ledger;
 /// Whether all tests of a run hold for an element, those aside that have selectors in them; the cheapest are asked first,
 /// and none whose answer is remembered.
 pub(crate) fn singles_hold<P: Ledger>(
-    inquiry: &Inquiry<'_>,
+    inquiry: &Inquiry<'_, '_>,
     run: &[Step],
     x: u32,
     begin: usize,
     notes: &mut Noted,
     parts: &mut Steps<P>,
 ) -> Result<bool, AllocError>
-    requires element { IsElement inquiry.now.dom.now x }
-    requires proper { are_own inquiry.now.table.now.patterns run.now ≡ true }
+    requires element { IsElement inquiry.now.context.dom.now x }
+    requires proper { are_own inquiry.now.context.table.now.patterns run.now ≡ true }
     requires at { IsPart (chain_cells inquiry.now.chain.now) begin (chain_cells run.now) }
-    requires right { IsRight inquiry.now.dom.now inquiry.now.chain.now notes.old inquiry.now.path.now }
-    ensures answer { IfOk result (λ answer. answer ≡ list_all (single_keeps inquiry.now.dom.now inquiry.now.path.now x) run.now) }
-    ensures right { OnOk result (IsRight inquiry.now.dom.now inquiry.now.chain.now notes.new inquiry.now.path.now) }
-    ensures asked { parts.new + unknown inquiry.now.dom.now inquiry.now.chain.now notes.new
-        ≤ parts.old + unknown inquiry.now.dom.now inquiry.now.chain.now notes.old }
+    requires right { IsRight inquiry.now.context.dom.now inquiry.now.chain.now notes.old
+        inquiry.now.context.path.now }
+    ensures answer { IfOk result (λ answer. answer ≡
+        list_all (single_keeps inquiry.now.context.dom.now inquiry.now.context.path.now x)
+        run.now) }
+    ensures right { OnOk result (IsRight inquiry.now.context.dom.now inquiry.now.chain.now notes.new
+        inquiry.now.context.path.now) }
+    ensures asked { parts.new + unknown inquiry.now.context.dom.now inquiry.now.chain.now notes.new
+        ≤ parts.old + unknown inquiry.now.context.dom.now inquiry.now.chain.now notes.old }
 {
     if !all_of_cost(inquiry, run, Cost::Names, x, begin, notes, parts)? {
         return Ok(false);
@@ -56,7 +60,7 @@ pub(crate) fn singles_hold<P: Ledger>(
 
 // Whether those tests of a run hold that cost so much.
 fn all_of_cost<P: Ledger>(
-    inquiry: &Inquiry<'_>,
+    inquiry: &Inquiry<'_, '_>,
     run: &[Step],
     cost: Cost,
     x: u32,
@@ -64,14 +68,18 @@ fn all_of_cost<P: Ledger>(
     notes: &mut Noted,
     parts: &mut Steps<P>,
 ) -> Result<bool, AllocError>
-    requires element { IsElement inquiry.now.dom.now x }
-    requires proper { are_own inquiry.now.table.now.patterns run.now ≡ true }
+    requires element { IsElement inquiry.now.context.dom.now x }
+    requires proper { are_own inquiry.now.context.table.now.patterns run.now ≡ true }
     requires at { IsPart (chain_cells inquiry.now.chain.now) begin (chain_cells run.now) }
-    requires right { IsRight inquiry.now.dom.now inquiry.now.chain.now notes.old inquiry.now.path.now }
-    ensures answer { IfOk result (λ answer. answer ≡ list_all (cost_keeps inquiry.now.dom.now inquiry.now.path.now cost x) run.now) }
-    ensures right { OnOk result (IsRight inquiry.now.dom.now inquiry.now.chain.now notes.new inquiry.now.path.now) }
-    ensures asked { parts.new + unknown inquiry.now.dom.now inquiry.now.chain.now notes.new
-        ≤ parts.old + unknown inquiry.now.dom.now inquiry.now.chain.now notes.old }
+    requires right { IsRight inquiry.now.context.dom.now inquiry.now.chain.now notes.old
+        inquiry.now.context.path.now }
+    ensures answer { IfOk result (λ answer. answer ≡
+        list_all (cost_keeps inquiry.now.context.dom.now inquiry.now.context.path.now cost x)
+        run.now) }
+    ensures right { OnOk result (IsRight inquiry.now.context.dom.now inquiry.now.chain.now notes.new
+        inquiry.now.context.path.now) }
+    ensures asked { parts.new + unknown inquiry.now.context.dom.now inquiry.now.chain.now notes.new
+        ≤ parts.old + unknown inquiry.now.context.dom.now inquiry.now.chain.now notes.old }
 {
     let mut place = begin;
     for step in run {
@@ -85,7 +93,7 @@ fn all_of_cost<P: Ledger>(
 
 // Whether a step keeps an element, where it keeps by a test that costs so much.
 fn step_keeps<P: Ledger>(
-    inquiry: &Inquiry<'_>,
+    inquiry: &Inquiry<'_, '_>,
     step: &Step,
     cost: Cost,
     x: u32,
@@ -93,14 +101,17 @@ fn step_keeps<P: Ledger>(
     notes: &mut Noted,
     parts: &mut Steps<P>,
 ) -> Result<bool, AllocError>
-    requires element { IsElement inquiry.now.dom.now x }
-    requires proper { is_own inquiry.now.table.now.patterns step.now ≡ true }
+    requires element { IsElement inquiry.now.context.dom.now x }
+    requires proper { is_own inquiry.now.context.table.now.patterns step.now ≡ true }
     requires at { IsPart (chain_cells inquiry.now.chain.now) begin (step_cells step.now) }
-    requires right { IsRight inquiry.now.dom.now inquiry.now.chain.now notes.old inquiry.now.path.now }
-    ensures answer { IfOk result (λ answer. answer ≡ cost_keeps inquiry.now.dom.now inquiry.now.path.now cost x step.now) }
-    ensures right { OnOk result (IsRight inquiry.now.dom.now inquiry.now.chain.now notes.new inquiry.now.path.now) }
-    ensures asked { parts.new + unknown inquiry.now.dom.now inquiry.now.chain.now notes.new
-        ≤ parts.old + unknown inquiry.now.dom.now inquiry.now.chain.now notes.old }
+    requires right { IsRight inquiry.now.context.dom.now inquiry.now.chain.now notes.old
+        inquiry.now.context.path.now }
+    ensures answer { IfOk result (λ answer. answer ≡
+        cost_keeps inquiry.now.context.dom.now inquiry.now.context.path.now cost x step.now) }
+    ensures right { OnOk result (IsRight inquiry.now.context.dom.now inquiry.now.chain.now notes.new
+        inquiry.now.context.path.now) }
+    ensures asked { parts.new + unknown inquiry.now.context.dom.now inquiry.now.chain.now notes.new
+        ≤ parts.old + unknown inquiry.now.context.dom.now inquiry.now.chain.now notes.old }
 {
     match step {
         Step::Keep(test) => {
@@ -116,22 +127,25 @@ fn step_keeps<P: Ledger>(
 
 // Whether a test holds for an element: it is asked where no answer is remembered, and the answer is.
 fn test_holds<P: Ledger>(
-    inquiry: &Inquiry<'_>,
+    inquiry: &Inquiry<'_, '_>,
     test: &Test,
     x: u32,
     place: usize,
     notes: &mut Noted,
     parts: &mut Steps<P>,
 ) -> Result<bool, AllocError>
-    requires element { IsElement inquiry.now.dom.now x }
+    requires element { IsElement inquiry.now.context.dom.now x }
     requires single { is_single test.now ≡ true }
-    requires ready { is_ready inquiry.now.table.now.patterns test.now ≡ true }
+    requires ready { is_ready inquiry.now.context.table.now.patterns test.now ≡ true }
     requires at { IsPart (chain_cells inquiry.now.chain.now) place (test.now ∷ []) }
-    requires right { IsRight inquiry.now.dom.now inquiry.now.chain.now notes.old inquiry.now.path.now }
-    ensures answer { IfOk result (λ answer. answer ≡ holds pattern_found inquiry.now.dom.now inquiry.now.path.now test.now x) }
-    ensures right { OnOk result (IsRight inquiry.now.dom.now inquiry.now.chain.now notes.new inquiry.now.path.now) }
-    ensures asked { parts.new + unknown inquiry.now.dom.now inquiry.now.chain.now notes.new
-        ≤ parts.old + unknown inquiry.now.dom.now inquiry.now.chain.now notes.old }
+    requires right { IsRight inquiry.now.context.dom.now inquiry.now.chain.now notes.old
+        inquiry.now.context.path.now }
+    ensures answer { IfOk result (λ answer. answer ≡ holds pattern_found inquiry.now.context.dom.now
+        inquiry.now.context.path.now test.now x) }
+    ensures right { OnOk result (IsRight inquiry.now.context.dom.now inquiry.now.chain.now notes.new
+        inquiry.now.context.path.now) }
+    ensures asked { parts.new + unknown inquiry.now.context.dom.now inquiry.now.chain.now notes.new
+        ≤ parts.old + unknown inquiry.now.context.dom.now inquiry.now.chain.now notes.old }
 {
     if let Some(answer) = notes.answer(place, x) {
         return Ok(answer);
@@ -139,10 +153,10 @@ fn test_holds<P: Ledger>(
     // room is taken before the test is asked, so that none is asked twice
     notes.put(place, x, false)?;
     let answer = holds(
-        inquiry.alloc,
-        inquiry.dom,
-        inquiry.path,
-        inquiry.table,
+        inquiry.context.alloc,
+        inquiry.context.dom,
+        inquiry.context.path,
+        inquiry.context.table,
         test,
         x,
         parts,

@@ -14,7 +14,7 @@ ghost use Rattle.procedural_ops.specs.Runs.{nested_keeps};
 use crate::context::MatchingContext;
 use crate::count::behind;
 use crate::inquiry::Inquiry;
-use crate::own_others::{Origin, is_other};
+use crate::own_others::{Origin, is_other_of_front};
 use crate::runs::{is_nested, run_start, singles_hold};
 use crate::{plain, search};
 use cos_outside::Steps;
@@ -26,7 +26,7 @@ use std::sync::ledger::Ledger;
 /// Whether steps lead from all elements to an element. The tests of the last compound are asked of this element alone; what
 /// stands before them, and what stands in them, may be asked again, and so its answers are remembered.
 pub(crate) fn is_reached<P: Ledger>(
-    context: &MatchingContext<'_>,
+    context: &MatchingContext<'_, '_>,
     origin: &Origin<'_>,
     steps: &[Step],
     x: u32,
@@ -36,11 +36,14 @@ pub(crate) fn is_reached<P: Ledger>(
     requires element { IsElement context.now.dom.now x }
     requires proper { are_own context.now.table.now.patterns steps.now ≡ true }
     requires chain { steps.now ≡ chain_of origin.now }
-    requires right { AreRight context.now.dom.now context.now.path.now origin.now.active.now members.old }
+    requires right { AreRight context.now.dom.now context.now.path.now origin.now.active.now
+        members.old }
     ensures answer { IfOk result (λ answer. answer ≡
         is_in (reached context.now.dom.now context.now.path.now steps.now) x) }
-    ensures right { AreRight context.now.dom.now context.now.path.now origin.now.active.now members.new }
-    ensures asked { parts.new ≤ parts.old + length (chain_tests steps.now) * length (all context.now.dom.now) }
+    ensures right { AreRight context.now.dom.now context.now.path.now origin.now.active.now
+        members.new }
+    ensures asked { parts.new
+        ≤ parts.old + length (chain_tests steps.now) * length (all context.now.dom.now) }
 {
     let first = run_start(steps);
     let run = &steps[first..];
@@ -55,15 +58,17 @@ pub(crate) fn is_reached<P: Ledger>(
 
 // Whether those tests of a run hold for an element that have selectors in them.
 fn nested_hold<P: Ledger>(
-    context: &MatchingContext<'_>,
+    context: &MatchingContext<'_, '_>,
     run: &[Step],
     x: u32,
     parts: &mut Steps<P>,
 ) -> Result<bool, AllocError>
     requires element { IsElement context.now.dom.now x }
     requires proper { are_own context.now.table.now.patterns run.now ≡ true }
-    ensures answer { IfOk result (λ answer. answer ≡ list_all (nested_keeps context.now.dom.now context.now.path.now x) run.now) }
-    ensures asked { parts.new ≤ parts.old + nested_tests run.now * length (all context.now.dom.now) }
+    ensures answer { IfOk result (λ answer. answer ≡
+        list_all (nested_keeps context.now.dom.now context.now.path.now x) run.now) }
+    ensures asked { parts.new
+        ≤ parts.old + nested_tests run.now * length (all context.now.dom.now) }
 {
     for (i, step) in run.iter().enumerate() {
         if is_nested(step) && !nested_keeps(context, &run[i..i + 1], x, parts)? {
@@ -75,22 +80,21 @@ fn nested_hold<P: Ledger>(
 
 // The same for some of them, with notes of their own: each is asked of this element alone.
 fn nested_keeps<P: Ledger>(
-    context: &MatchingContext<'_>,
+    context: &MatchingContext<'_, '_>,
     run: &[Step],
     x: u32,
     parts: &mut Steps<P>,
 ) -> Result<bool, AllocError>
     requires element { IsElement context.now.dom.now x }
     requires proper { are_own context.now.table.now.patterns run.now ≡ true }
-    ensures answer { IfOk result (λ answer. answer ≡ list_all (nested_keeps context.now.dom.now context.now.path.now x) run.now) }
-    ensures asked { parts.new ≤ parts.old + length (chain_tests run.now) * length (all context.now.dom.now) }
+    ensures answer { IfOk result (λ answer. answer ≡
+        list_all (nested_keeps context.now.dom.now context.now.path.now x) run.now) }
+    ensures asked { parts.new
+        ≤ parts.old + length (chain_tests run.now) * length (all context.now.dom.now) }
 {
     let mut notes = Noted::new(context.alloc, behind(0, run)?)?;
     let inquiry = Inquiry {
-        alloc: context.alloc,
-        dom: context.dom,
-        path: context.path,
-        table: context.table,
+        context: *context,
         chain: run,
     };
     search::nested_hold(&inquiry, run, x, 0, &mut notes, parts)
@@ -98,7 +102,7 @@ fn nested_keeps<P: Ledger>(
 
 // Whether steps before the last compound lead to an element.
 fn is_front_reached<P: Ledger>(
-    context: &MatchingContext<'_>,
+    context: &MatchingContext<'_, '_>,
     origin: &Origin<'_>,
     steps: &[Step],
     x: u32,
@@ -108,11 +112,14 @@ fn is_front_reached<P: Ledger>(
     requires element { IsElement context.now.dom.now x }
     requires proper { are_own context.now.table.now.patterns steps.now ≡ true }
     requires front { steps.now ≡ take (length steps.now) (chain_of origin.now) }
-    requires right { AreRight context.now.dom.now context.now.path.now origin.now.active.now members.old }
+    requires right { AreRight context.now.dom.now context.now.path.now origin.now.active.now
+        members.old }
     ensures answer { IfOk result (λ answer. answer ≡
         is_in (reached context.now.dom.now context.now.path.now steps.now) x) }
-    ensures right { AreRight context.now.dom.now context.now.path.now origin.now.active.now members.new }
-    ensures asked { parts.new ≤ parts.old + length (chain_tests steps.now) * length (all context.now.dom.now) }
+    ensures right { AreRight context.now.dom.now context.now.path.now origin.now.active.now
+        members.new }
+    ensures asked { parts.new
+        ≤ parts.old + length (chain_tests steps.now) * length (all context.now.dom.now) }
 {
     if plain::is_plain(steps) {
         return plain::is_reached(context, steps, x, parts);
@@ -121,14 +128,14 @@ fn is_front_reached<P: Ledger>(
         return is_found(context, steps, x, parts);
     };
     match last {
-        Step::Others => is_other(context, origin, before, x, members, parts),
+        Step::Others => is_other_of_front(context, origin, before, x, members, parts),
         _ => is_found(context, steps, x, parts),
     }
 }
 
 // The same, by the search that remembers its answers.
 fn is_found<P: Ledger>(
-    context: &MatchingContext<'_>,
+    context: &MatchingContext<'_, '_>,
     steps: &[Step],
     x: u32,
     parts: &mut Steps<P>,
@@ -137,14 +144,12 @@ fn is_found<P: Ledger>(
     requires proper { are_own context.now.table.now.patterns steps.now ≡ true }
     ensures answer { IfOk result (λ answer. answer ≡
         is_in (reached context.now.dom.now context.now.path.now steps.now) x) }
-    ensures asked { parts.new ≤ parts.old + length (chain_tests steps.now) * length (all context.now.dom.now) }
+    ensures asked { parts.new
+        ≤ parts.old + length (chain_tests steps.now) * length (all context.now.dom.now) }
 {
     let mut notes = Noted::new(context.alloc, behind(0, steps)?)?;
     let inquiry = Inquiry {
-        alloc: context.alloc,
-        dom: context.dom,
-        path: context.path,
-        table: context.table,
+        context: *context,
         chain: steps,
     };
     search::is_reached(&inquiry, steps, x, 0, &mut notes, parts)

@@ -13,7 +13,7 @@ use crate::context::MatchingContext;
 use crate::count::behind;
 use crate::inquiry::Inquiry;
 use crate::places::is_shown;
-use crate::search::{reaches_above, reaches_below, reaches_beside};
+use crate::search::{reaches_above, reaches_below, reaches_below_parent};
 use cos_outside::Steps;
 use dom_arena::Dom;
 use remembered::{Front, Members, Noted};
@@ -33,8 +33,8 @@ pub(crate) struct Origin<'a> {
 /// Whether `:others()` leads to an element from those to which the steps before it lead: they lead neither to it nor to what is
 /// above or below it, but to something that stands below its parent. The last is the same for all children of a parent, and
 /// so it is found out once.
-pub(crate) fn is_other<P: Ledger>(
-    context: &MatchingContext<'_>,
+pub(crate) fn is_other_of_front<P: Ledger>(
+    context: &MatchingContext<'_, '_>,
     origin: &Origin<'_>,
     steps: &[Step],
     x: u32,
@@ -44,21 +44,22 @@ pub(crate) fn is_other<P: Ledger>(
     requires element { IsElement context.now.dom.now x }
     requires proper { are_own context.now.table.now.patterns steps.now ≡ true }
     requires front { steps.now ≡ take (length steps.now) (chain_of origin.now) }
-    requires right { AreRight context.now.dom.now context.now.path.now origin.now.active.now members.old }
+    requires right { AreRight context.now.dom.now context.now.path.now origin.now.active.now
+        members.old }
     ensures answer { IfOk result (λ answer. answer ≡
-        is_other context.now.dom.now (reached context.now.dom.now context.now.path.now steps.now) x) }
-    ensures right { AreRight context.now.dom.now context.now.path.now origin.now.active.now members.new }
-    ensures asked { parts.new ≤ parts.old + length (chain_tests steps.now) * length (all context.now.dom.now) }
+        is_other context.now.dom.now (reached context.now.dom.now context.now.path.now steps.now)
+        x) }
+    ensures right { AreRight context.now.dom.now context.now.path.now origin.now.active.now
+        members.new }
+    ensures asked { parts.new
+        ≤ parts.old + length (chain_tests steps.now) * length (all context.now.dom.now) }
 {
     context.dom.is_tree();
     if !is_shown(context.dom, x) {
         return Ok(false);
     }
     let inquiry = Inquiry {
-        alloc: context.alloc,
-        dom: context.dom,
-        path: context.path,
-        table: context.table,
+        context: *context,
         chain: steps,
     };
     let mut notes = Noted::new(context.alloc, behind(0, steps)?)?;
@@ -77,7 +78,7 @@ pub(crate) fn is_other<P: Ledger>(
     if let Some(known) = members.answer(front) {
         return Ok(known);
     }
-    let found = reaches_beside(&inquiry, steps, x, 0, &mut notes, parts)?;
+    let found = reaches_below_parent(&inquiry, steps, x, 0, &mut notes, parts)?;
     members.put(front, found)?;
     Ok(found)
 }

@@ -78,13 +78,13 @@ pub(crate) fn is_beside(dom: &Dom, y: u32, x: u32) -> bool
     }
 }
 
-/// Whether some element was near x, or y is one that was reached and is.
-pub(crate) fn is_near_now(dom: &Dom, near: bool, reached: bool, y: u32, x: u32) -> bool
+/// Whether the parent of x is above y, or was above one of the elements before.
+pub(crate) fn is_beside_by_now(dom: &Dom, before: bool, y: u32, x: u32) -> bool
     requires y { IsElement dom.now y }
     requires x { IsElement dom.now x }
-    ensures { result ≡ (near || (reached && is_beside dom.now y x)) }
+    ensures { result ≡ (before || is_beside dom.now y x) }
 {
-    near || (reached && is_beside(dom, y, x))
+    before || is_beside(dom, y, x)
 }
 
 /// Whether an element has none of the names that `:others()` leaves out.

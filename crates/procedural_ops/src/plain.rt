@@ -45,7 +45,7 @@ fn is_plain_step(step: &Step) -> bool
 /// It climbs from the element, and goes back to two points alone: so it asks each test of the chain at most once of an
 /// element.
 pub(crate) fn is_reached<P: Ledger>(
-    context: &MatchingContext<'_>,
+    context: &MatchingContext<'_, '_>,
     steps: &[Step],
     x: u32,
     parts: &mut Steps<P>,
@@ -53,8 +53,10 @@ pub(crate) fn is_reached<P: Ledger>(
     requires element { IsElement context.now.dom.now x }
     requires proper { are_own context.now.table.now.patterns steps.now ≡ true }
     requires plain { list_all is_plain_step steps.now ≡ true }
-    ensures answer { IfOk result (λ answer. answer ≡ is_in (reached context.now.dom.now context.now.path.now steps.now) x) }
-    ensures asked { parts.new ≤ parts.old + many_asked steps.now * length (all context.now.dom.now) }
+    ensures answer { IfOk result (λ answer. answer ≡
+        is_in (reached context.now.dom.now context.now.path.now steps.now) x) }
+    ensures asked { parts.new
+        ≤ parts.old + many_asked steps.now * length (all context.now.dom.now) }
 {
     context.dom.is_tree();
     let mut climb = start(steps.len(), x);
@@ -69,7 +71,7 @@ pub(crate) fn is_reached<P: Ledger>(
 
 /// One turn of the search: the combinator or the run of tests that ends the steps left is asked of where the search stands.
 fn turn<P: Ledger>(
-    context: &MatchingContext<'_>,
+    context: &MatchingContext<'_, '_>,
     steps: &[Step],
     climb: &Climb,
     parts: &mut Steps<P>,
@@ -80,8 +82,11 @@ fn turn<P: Ledger>(
     requires plain { list_all is_plain_step steps.now ≡ true }
     requires level { IsLevelAt context.now.dom.now steps.now climb.now }
     ensures once { IfOk result (GoesFurther context.now.dom.now steps.now climb.now) }
-    ensures goes { IfOk result (GoesOn context.now.dom.now context.now.path.now steps.now (is_open_at context.now.dom.now context.now.path.now steps.now climb.now) (remaining_at context.now.dom.now context.now.path.now steps.now climb.now)) }
-    ensures asked { IfOk result (λ next. parts.new + unasked_in context.now.dom.now steps.now next ≤ parts.old + unasked context.now.dom.now steps.now climb.now) }
+    ensures goes { IfOk result (GoesOn context.now.dom.now context.now.path.now steps.now
+        (is_open_at context.now.dom.now context.now.path.now steps.now climb.now)
+        (remaining_at context.now.dom.now context.now.path.now steps.now climb.now)) }
+    ensures asked { IfOk result (λ next. parts.new + unasked_in context.now.dom.now steps.now next
+        ≤ parts.old + unasked context.now.dom.now steps.now climb.now) }
     ensures few { parts.new ≤ parts.old + unasked context.now.dom.now steps.now climb.now }
 {
     context.dom.is_tree();

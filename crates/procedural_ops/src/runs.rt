@@ -120,14 +120,15 @@ pub(crate) fn run_length(steps: &[Step]) -> usize
 /// Whether all tests of a run hold for an element, those aside that have selectors in them; the cheapest are asked first,
 /// and each at most once.
 pub(crate) fn singles_hold<P: Ledger>(
-    context: &MatchingContext<'_>,
+    context: &MatchingContext<'_, '_>,
     run: &[Step],
     x: u32,
     parts: &mut Steps<P>,
 ) -> Result<bool, AllocError>
     requires element { IsElement context.now.dom.now x }
     requires proper { are_own context.now.table.now.patterns run.now ≡ true }
-    ensures answer { IfOk result (λ answer. answer ≡ list_all (single_keeps context.now.dom.now context.now.path.now x) run.now) }
+    ensures answer { IfOk result (λ answer. answer ≡
+        list_all (single_keeps context.now.dom.now context.now.path.now x) run.now) }
     ensures asked { parts.new ≤ parts.old + many_asked run.now }
 {
     if !all_of_cost(context, run, Cost::Names, x, parts)? {
@@ -147,7 +148,7 @@ pub(crate) fn singles_hold<P: Ledger>(
 
 // Whether those tests of a run hold that cost so much.
 fn all_of_cost<P: Ledger>(
-    context: &MatchingContext<'_>,
+    context: &MatchingContext<'_, '_>,
     run: &[Step],
     cost: Cost,
     x: u32,
@@ -155,7 +156,8 @@ fn all_of_cost<P: Ledger>(
 ) -> Result<bool, AllocError>
     requires element { IsElement context.now.dom.now x }
     requires proper { are_own context.now.table.now.patterns run.now ≡ true }
-    ensures answer { IfOk result (λ answer. answer ≡ list_all (cost_keeps context.now.dom.now context.now.path.now cost x) run.now) }
+    ensures answer { IfOk result (λ answer. answer ≡
+        list_all (cost_keeps context.now.dom.now context.now.path.now cost x) run.now) }
     ensures asked { parts.new ≤ parts.old + many_costing cost run.now }
 {
     for step in run {
@@ -168,7 +170,7 @@ fn all_of_cost<P: Ledger>(
 
 // Whether a step keeps an element, where it keeps by a test that costs so much.
 fn step_keeps<P: Ledger>(
-    context: &MatchingContext<'_>,
+    context: &MatchingContext<'_, '_>,
     step: &Step,
     cost: Cost,
     x: u32,
@@ -176,7 +178,8 @@ fn step_keeps<P: Ledger>(
 ) -> Result<bool, AllocError>
     requires element { IsElement context.now.dom.now x }
     requires proper { is_own context.now.table.now.patterns step.now ≡ true }
-    ensures answer { IfOk result (λ answer. answer ≡ cost_keeps context.now.dom.now context.now.path.now cost x step.now) }
+    ensures answer { IfOk result (λ answer. answer ≡
+        cost_keeps context.now.dom.now context.now.path.now cost x step.now) }
     ensures asked { parts.new ≤ parts.old + cond (costs cost step.now) 1 0 }
 {
     match step {

@@ -69,7 +69,7 @@ impl Verdict {
 /// What is found out of `:others()` for all children of a parent is remembered in `members`, for further questions about the
 /// same page as it stands and the same filters: whoever asks about another state of the page begins with an empty one.
 pub fn test<L: Ledger, P: Ledger>(
-    context: &MatchingContext<'_>,
+    context: &MatchingContext<'_, '_>,
     active: &Active,
     f: u32,
     x: u32,
@@ -84,7 +84,8 @@ pub fn test<L: Ledger, P: Ledger>(
     ensures filter { IfOk result (λ verdict. verdict.filter ≡ f) }
     ensures element { IfOk result (λ verdict. verdict.element ≡ x) }
     ensures answer { IfOk result (λ verdict. verdict.yes ≡
-        selects pattern_found context.now.dom.now context.now.path.now (selector_at active.now f) x) }
+        selects pattern_found context.now.dom.now context.now.path.now (selector_at active.now f)
+        x) }
     ensures right { AreRight context.now.dom.now context.now.path.now active.now members.new }
     ensures counted { checks.new ≡ checks.old + 1 }
     ensures asked { parts.new ≤ parts.old
@@ -101,7 +102,7 @@ pub fn test<L: Ledger, P: Ledger>(
 
 // Whether the filter at a place selects an element.
 fn decide<P: Ledger>(
-    context: &MatchingContext<'_>,
+    context: &MatchingContext<'_, '_>,
     active: &Active,
     f: u32,
     x: u32,
@@ -113,7 +114,8 @@ fn decide<P: Ledger>(
     requires proper { is_proper context.now.table.now.patterns (selector_at active.now f) ≡ true }
     requires right { AreRight context.now.dom.now context.now.path.now active.now members.old }
     ensures answer { IfOk result (λ yes. yes ≡
-        selects pattern_found context.now.dom.now context.now.path.now (selector_at active.now f) x) }
+        selects pattern_found context.now.dom.now context.now.path.now (selector_at active.now f)
+        x) }
     ensures right { AreRight context.now.dom.now context.now.path.now active.now members.new }
     ensures asked { parts.new ≤ parts.old
         + simple_tests (selector_at active.now f) * length (all context.now.dom.now) }
@@ -134,7 +136,7 @@ fn decide<P: Ledger>(
 
 // Whether some chain of a filter leads from all elements to an element.
 fn selects<P: Ledger>(
-    context: &MatchingContext<'_>,
+    context: &MatchingContext<'_, '_>,
     active: &Active,
     f: u32,
     selector: &[Chain],
@@ -149,7 +151,8 @@ fn selects<P: Ledger>(
     ensures answer { IfOk result (λ answer. answer ≡
         is_selected context.now.dom.now context.now.path.now selector.now x) }
     ensures right { AreRight context.now.dom.now context.now.path.now active.now members.new }
-    ensures asked { parts.new ≤ parts.old + simple_tests selector.now * length (all context.now.dom.now) }
+    ensures asked { parts.new
+        ≤ parts.old + simple_tests selector.now * length (all context.now.dom.now) }
 {
     for (i, chain) in selector.iter().enumerate() {
         let origin = Origin {
@@ -166,7 +169,7 @@ fn selects<P: Ledger>(
 
 // Whether a chain leads from all elements to an element.
 fn chain_selects<P: Ledger>(
-    context: &MatchingContext<'_>,
+    context: &MatchingContext<'_, '_>,
     origin: &Origin<'_>,
     steps: &[Step],
     x: u32,
@@ -176,11 +179,14 @@ fn chain_selects<P: Ledger>(
     requires element { IsElement context.now.dom.now x }
     requires proper { are_own context.now.table.now.patterns steps.now ≡ true }
     requires chain { steps.now ≡ chain_of origin.now }
-    requires right { AreRight context.now.dom.now context.now.path.now origin.now.active.now members.old }
+    requires right { AreRight context.now.dom.now context.now.path.now origin.now.active.now
+        members.old }
     ensures answer { IfOk result (λ answer. answer ≡
         is_in (reached context.now.dom.now context.now.path.now steps.now) x) }
-    ensures right { AreRight context.now.dom.now context.now.path.now origin.now.active.now members.new }
-    ensures asked { parts.new ≤ parts.old + length (chain_tests steps.now) * length (all context.now.dom.now) }
+    ensures right { AreRight context.now.dom.now context.now.path.now origin.now.active.now
+        members.new }
+    ensures asked { parts.new
+        ≤ parts.old + length (chain_tests steps.now) * length (all context.now.dom.now) }
 {
     if plain::is_plain(steps) {
         plain::is_reached(context, steps, x, parts)

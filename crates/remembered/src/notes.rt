@@ -71,6 +71,13 @@ impl Noted {
         Ok(Noted { columns })
     }
 
+    /// For how many tests there are answers.
+    pub fn len(&self) -> usize
+        ensures { result ≡ length self.now }
+    {
+        self.columns.len()
+    }
+
     /// The answer of the test at a place for an element, if it is there.
     pub fn answer(&self, place: usize, x: u32) -> Option<bool>
         requires { place < length self.now }

@@ -6,24 +6,18 @@ use Rattle.selector_tree.specs.declared.filter.Filter.{Filter}
 use Rattle.page_tree.specs.Standings.{all}
 use Rattle.cos_patterns.specs.Found.{pattern_found}
 use Rattle.procedural_ops.specs.Told.{selector_at}
-use Rattle.generic_tables.specs.Keys.{key_of_chain, is_keyed}
-use Rattle.generic_tables.specs.Carried.{same_key, keys_at}
-use Rattle.generic_tables.specs.Tables.{is_filed}
+use Rattle.generic_tables.specs.Keys.{is_keyed}
+use Rattle.generic_tables.specs.Carried.{keys_at}
+use Rattle.generic_tables.specs.FilterTables.{has_key}
 use Rattle.generic_tables.proofs.KeyLaws.{key_law}
 use Rattle.generic_tables.proofs.Carrying.{keyed_at}
 use Rattle.retest_laws.specs.Pending.{HasKeys}
 use Rattle.retest.specs.declared.asking.Asking.{Asking}
-use Rattle.retest.specs.Asked.{answers, carried, IsReady}
+use Rattle.retest.specs.Asked.{answers, carried}
 
-any_alike : {A : Type 0} (f g : A → Bool) (xs : List A) → ((x : A) → f x ≡ g x) → list_any f xs ≡ list_any g xs
-any_alike f g [] h = refl
-any_alike f g (x ∷ xs) h = ap₂ (λ a b. a || b) (h x) (any_alike f g xs h)
-
--- the filters that stand under some key of an element are those whose key it carries
-pub filed_at : (asking : Asking) → IsReady asking → (f x : ℕ) → list_any (λ k. is_filed asking.keyed.now k f) (keys_at asking.context.dom.now x) ≡ carried asking f x
-filed_at asking ready f x =
-    any_alike (λ k. is_filed asking.keyed.now k f) (λ k. list_any (same_key k) (map key_of_chain (selector_at asking.active.now f))) (keys_at asking.context.dom.now x) (λ k. ready.filed k f)
-    ∙ keyed_at asking.context.dom.now (selector_at asking.active.now f) x
+-- an element carries a key of the filters that have some key of it
+pub filed_at : (asking : Asking) (f x : ℕ) → list_any (λ k. has_key asking.active.now k f) (keys_at asking.context.dom.now x) ≡ carried asking f x
+filed_at asking f x = keyed_at asking.context.dom.now (selector_at asking.active.now f) x
 
 -- no filter past the last has a key
 pub active_filter : (asking : Asking) (f x : ℕ) → carried asking f x ≡ true → f < length asking.active.now

@@ -1,16 +1,13 @@
 -- What is asked again, of a page and its filters.
-use Rattle.std.specs.Prelude.{◌≡◌, ℕ, ◌<◌, Bool, true, List, map, length, slice_get, unwrap_or}
-use Rattle.std.specs.List.{list_any}
+use Rattle.std.specs.Prelude.{◌≡◌, ℕ, ◌<◌, Bool, true, List, length, slice_get, unwrap_or}
 use Rattle.cos_patterns.specs.Found.{pattern_found}
 use Rattle.selector_meaning.specs.Meaning.{selects}
 use Rattle.proper_filters.specs.Proper.{is_proper}
 use Rattle.remembered.specs.declared.members.Front.{Front}
 use Rattle.procedural_ops.specs.Told.{selector_at}
 use Rattle.procedural_ops.specs.Others.{AreRight}
-use Rattle.generic_tables.specs.declared.keys.Key.{Key}
-use Rattle.generic_tables.specs.Keys.{key_of_chain, is_keyed}
-use Rattle.generic_tables.specs.Carried.{same_key}
-use Rattle.generic_tables.specs.Tables.{is_filed}
+use Rattle.generic_tables.specs.Keys.{is_keyed}
+use Rattle.generic_tables.specs.FilterTables.{IsTableOf}
 use Rattle.retest.specs.declared.asking.Asking.{Asking}
 use Rattle.retest.specs.Noted.{Noted, is_pending}
 
@@ -30,10 +27,10 @@ group_in groups f = unwrap_or (slice_get groups f) 0
 abbrev pub pends : Asking → Noted → ℕ → ℕ → Bool
 pends asking pending f x = is_pending pending (group_in asking.groups.now f) x
 
--- each filter may be asked, and stands under the keys of its chains
+-- each filter may be asked, and is found by the keys of its chains
 pub record IsReady (asking : Asking) : Type 0 where
   pub proper : (f : ℕ) → f < length asking.active.now → is_proper asking.context.table.now.patterns (selector_at asking.active.now f) ≡ true
-  pub filed : (k : Key) (f : ℕ) → is_filed asking.keyed.now k f ≡ list_any (same_key k) (map key_of_chain (selector_at asking.active.now f))
+  pub filed : IsTableOf asking.active.now asking.keyed.now
 
 -- what is remembered of `:others()` is right for the page as it stands and the filters
 abbrev pub AreRightFor : Asking → List (Front × Bool) → Type 0

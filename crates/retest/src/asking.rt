@@ -5,7 +5,7 @@ ghost use Rattle.page_tree.specs.Standings.{all};
 ghost use Rattle.page_tree.specs.Directions.{is_in};
 ghost use Rattle.selector_match.specs.Asked.{IsElement};
 ghost use Rattle.generic_tables.specs.Carried.{key_in};
-ghost use Rattle.generic_tables.specs.Tables.{is_filed};
+ghost use Rattle.generic_tables.specs.FilterTables.{has_key, IsTableOf};
 ghost use Rattle.kept_marks.specs.Kept.{is_marked, Sets, IsSame};
 ghost use Rattle.retest_laws.specs.Pending.{asked_again, due_at, budget, IsRightBut, IsExact};
 ghost use Rattle.retest.specs.Asked.{answers, carried, group_in, pends, IsReady, AreRightFor};
@@ -27,8 +27,8 @@ use std::sync::ledger::Ledger;
 
 /// A page, and the filters that are asked of its elements: in order, by the keys of their chains, and the group of each.
 #[derive(Clone, Copy)]
-pub struct Asking<'a> {
-    pub context: MatchingContext<'a>,
+pub struct Asking<'a, 'p> {
+    pub context: MatchingContext<'a, 'p>,
     pub active: &'a Active,
     pub keyed: &'a FilterTable,
     pub groups: &'a [u32],
@@ -45,7 +45,7 @@ fn group_of(groups: &[u32], f: u32) -> u32
 }
 
 // Whether a filter may select an element: a no is right.
-fn may_answer(asking: &Asking<'_>, f: u32, x: u32) -> bool
+fn may_answer(asking: &Asking<'_, '_>, f: u32, x: u32) -> bool
     requires { IsElement asking.now.context.dom.now x }
     ensures { result ≡ false → answers asking.now f x ≡ false }
 {
@@ -57,7 +57,7 @@ fn may_answer(asking: &Asking<'_>, f: u32, x: u32) -> bool
 
 // Whether to ask a filter under a key of an element: its group must be pending there. Every element has the key of nothing, so
 // a filter under that key is looked at before.
-fn is_due<W: Pends>(asking: &Asking<'_>, key: KeyRef<'_>, f: u32, pending: &W, x: u32) -> bool
+fn is_due<W: Pends>(asking: &Asking<'_, '_>, key: KeyRef<'_>, f: u32, pending: &W, x: u32) -> bool
     requires { IsElement asking.now.context.dom.now x }
     ensures within { result ≡ true →
         W.pends pending.now (group_in asking.now.groups.now f) x ≡ true }
@@ -77,25 +77,27 @@ fn is_due<W: Pends>(asking: &Asking<'_>, key: KeyRef<'_>, f: u32, pending: &W, x
 // Adds the filters under a key of an element that are to be asked of it: none that isn't pending there, and each that is and
 // selects it.
 fn add_due<W: Pends>(
-    asking: &Asking<'_>,
+    asking: &Asking<'_, '_>,
     due: &mut IndexSet<u32>,
     key: KeyRef<'_>,
     pending: &W,
     x: u32,
 ) -> Result<(), AllocError>
-    requires { IsElement asking.now.context.dom.now x }
+    requires table { IsTableOf asking.now.active.now asking.now.keyed.now }
+    requires element { IsElement asking.now.context.dom.now x }
     ensures within { OnOk result ((f : ℕ) → list_any (nat_eq f) due.new.keys ≡ true →
-        (list_any (nat_eq f) due.old.keys || (is_filed asking.now.keyed.now (key_in key.entry) f
+        (list_any (nat_eq f) due.old.keys || (has_key asking.now.active.now (key_in key.entry) f
         && W.pends pending.now (group_in asking.now.groups.now f) x)) ≡ true) }
     ensures enough { OnOk result ((f : ℕ) →
-        (list_any (nat_eq f) due.old.keys || (is_filed asking.now.keyed.now (key_in key.entry) f
+        (list_any (nat_eq f) due.old.keys || (has_key asking.now.active.now (key_in key.entry) f
         && (W.pends pending.now (group_in asking.now.groups.now f) x
         && answers asking.now f x))) ≡ true →
         list_any (nat_eq f) due.new.keys ≡ true) }
 {
-    for f in asking.keyed.filters_for(key) {
-        if is_due(asking, key, *f, pending, x) {
-            due.insert(*f)?;
+    let mut filters = asking.keyed.filters_for(asking.active, key);
+    'filters: while let Some(f) = filters.next() {
+        if is_due(asking, key, f, pending, x) {
+            due.insert(f)?;
         }
     }
     Ok(())
@@ -103,7 +105,11 @@ fn add_due<W: Pends>(
 
 // The filters to ask at an element, each once. It carries a key of each of them, and their groups are pending there; those that
 // are pending there and select it are among them.
-fn due_of<W: Pends>(asking: &Asking<'_>, pending: &W, x: u32) -> Result<IndexSet<u32>, AllocError>
+fn due_of<W: Pends>(
+    asking: &Asking<'_, '_>,
+    pending: &W,
+    x: u32,
+) -> Result<IndexSet<u32>, AllocError>
     requires ready { IsReady asking.now }
     requires element { IsElement asking.now.context.dom.now x }
     ensures within { IfOk result (λ due. (f : ℕ) → list_any (nat_eq f) due.keys ≡ true →
@@ -154,7 +160,7 @@ fn clear_all(marks: &mut Marks, stale: &[u32], x: u32)
 
 // Asks a filter of an element, and marks the answer.
 fn ask<L: Ledger, P: Ledger>(
-    asking: &Asking<'_>,
+    asking: &Asking<'_, '_>,
     f: u32,
     x: u32,
     members: &mut Members,
@@ -178,7 +184,7 @@ fn ask<L: Ledger, P: Ledger>(
 
 // Asks some filters of an element, and marks the answers.
 fn ask_all<L: Ledger, P: Ledger>(
-    asking: &Asking<'_>,
+    asking: &Asking<'_, '_>,
     due: &[u32],
     x: u32,
     members: &mut Members,
@@ -205,7 +211,7 @@ fn ask_all<L: Ledger, P: Ledger>(
 
 // Asks again what is pending at an element, and answers whether its marks are others than before.
 fn ask_at<W: Pends, L: Ledger, P: Ledger>(
-    asking: &Asking<'_>,
+    asking: &Asking<'_, '_>,
     pending: &W,
     x: u32,
     members: &mut Members,
@@ -259,7 +265,7 @@ fn either(a: bool, b: bool) -> bool
 
 // Asks again what is pending, at the elements that the page still has, and answers whether a mark is another one than before.
 fn ask_pending<L: Ledger, P: Ledger>(
-    asking: &Asking<'_>,
+    asking: &Asking<'_, '_>,
     pending: &Pending,
     members: &mut Members,
     marks: &mut Marks,
@@ -293,7 +299,7 @@ fn ask_pending<L: Ledger, P: Ledger>(
 /// Where the marks were right but for what is pending, they are exact afterwards. Elements that the page has no more must
 /// have left the marks before. The answer is whether a mark is another one than before.
 pub fn retest<L: Ledger, P: Ledger>(
-    asking: &Asking<'_>,
+    asking: &Asking<'_, '_>,
     pending: &Pending,
     marks: &mut Marks,
     checks: &mut Steps<L>,
@@ -318,7 +324,7 @@ pub fn retest<L: Ledger, P: Ledger>(
 
 /// The marks of a page: each filter is asked of the elements that carry a key of it, of each once at most.
 pub fn start<L: Ledger, P: Ledger>(
-    asking: &Asking<'_>,
+    asking: &Asking<'_, '_>,
     checks: &mut Steps<L>,
     parts: &mut Steps<P>,
 ) -> Result<Marks, AllocError>

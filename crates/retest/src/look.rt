@@ -14,7 +14,7 @@ use selector_tree::{Chain, Step, Test};
 ///
 /// Looked at are the tests behind each chain's last step that is no test, as far as they ask for the element's own name and
 /// attributes, and behind `:others()` the name too. It takes no memory and counts nothing.
-pub(crate) fn may_select(context: &MatchingContext<'_>, selector: &[Chain], x: u32) -> bool
+pub(crate) fn may_select(context: &MatchingContext<'_, '_>, selector: &[Chain], x: u32) -> bool
     requires { IsElement context.now.dom.now x }
     ensures { result ≡ false →
         selects pattern_found context.now.dom.now context.now.path.now selector.now x ≡ false }
@@ -28,7 +28,7 @@ pub(crate) fn may_select(context: &MatchingContext<'_>, selector: &[Chain], x: u
 }
 
 // Whether steps may lead to an element.
-fn may_lead(context: &MatchingContext<'_>, steps: &[Step], x: u32) -> bool
+fn may_lead(context: &MatchingContext<'_, '_>, steps: &[Step], x: u32) -> bool
     requires { IsElement context.now.dom.now x }
     ensures { result ≡ false →
         is_in (reached context.now.dom.now context.now.path.now steps.now) x ≡ false }
@@ -50,7 +50,7 @@ fn may_lead(context: &MatchingContext<'_>, steps: &[Step], x: u32) -> bool
 }
 
 // Whether a test may hold for an element: those of its own name and attributes are asked.
-fn may_hold(context: &MatchingContext<'_>, test: &Test, x: u32) -> bool
+fn may_hold(context: &MatchingContext<'_, '_>, test: &Test, x: u32) -> bool
     requires { IsElement context.now.dom.now x }
     ensures { result ≡ false →
         holds pattern_found context.now.dom.now context.now.path.now test.now x ≡ false }

@@ -50,15 +50,6 @@ distance_of p d b h = by_sign (pos p -ℤ b) refl h
 abbrev Steps : ℤ → ℤ → ℕ → ℕ → Type 0
 Steps a b p k = a *ℤ pos k +ℤ b ≡ pos p
 
-no_steps : (a b : ℤ) (p : ℕ) → pos p ≡ b → Steps a b p 0
-no_steps (pos m) b p h = omega (arith, ints)
-no_steps (negsuc m) b p h = omega (arith, ints)
-
-pub nth_here : (a b : ℤ) (p : ℕ) → pos p ≡ b → is_nth a b p ≡ true
-nth_here a b p h =
-    range_any (λ k. int_le (a *ℤ pos k +ℤ b) (pos p) && int_le (pos p) (a *ℤ pos k +ℤ b)) 0 (p + nat_abs b + 1) 0 (omega arith) (omega arith)
-    (int_same (a *ℤ pos 0 +ℤ b) (pos p) (no_steps a b p h))
-
 -- a distance of whole steps
 module _ (p d m : ℕ) (b : ℤ) where
   up_steps : pos p ≡ b +ℤ pos d → (q : ℕ) → d ≡ m * q → Steps (pos m) b p q

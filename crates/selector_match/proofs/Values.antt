@@ -1,6 +1,6 @@
 -- Texts against wanted ones, letter case ignored or not.
 use Rattle.std.proofs.Common.{◌≡◌, ◌↔◌, ℕ, ◌+◌, ◌-◌, ◌<◌, ◌==◌, nat_eq, ◌||◌, ◌&&◌, Bool, true, false, List, [], ◌∷◌, ◌++◌, map, length, take, drop, get_or, refl, sym, ◌∙◌, ap, ap₂, inl, inr, arith, if◌then◌else◌}
-use Rattle.std.proofs.lemmas.Bool.{cases_lt, lt-ltb, le-ltb, lt-leb, eq-eqb, ne_eqb, or_cases, or_left, or_right, false_from_ne_true}
+use Rattle.std.proofs.lemmas.Bool.{cases_lt, lt-ltb, le-ltb, lt-leb, eq-eqb, ne_eqb, or_cases, or_left, or_right}
 use Rattle.std.proofs.lemmas.Bool.Decides.{nat_tests}
 use Rattle.std.proofs.lemmas.Grind.{common_steps}
 use Rattle.std.proofs.lemmas.List.{get_or-map, map-append, take-map, drop-map, take-append-drop, length-drop, take_all}
@@ -28,9 +28,6 @@ pub bytes_eq-sym : (xs ys : List ℕ) → bytes_eq xs ys ≡ bytes_eq ys xs
 bytes_eq-sym xs ys =
     same_by_iff (bytes_eq xs ys) (bytes_eq ys xs)
     (λ h. text_same ys xs (sym (same_text xs ys h))) (λ h. text_same xs ys (sym (same_text ys xs h)))
-
-other_length : (xs ys : List ℕ) → (length xs ≡ length ys → ⊥) → bytes_eq xs ys ≡ false
-other_length xs ys h = false_from_ne_true (bytes_eq xs ys) (λ e. h (ap length (same_text xs ys e)))
 
 -- ---- spelled alike
 
@@ -60,20 +57,10 @@ is_empty-length (c ∷ v) false f g = refl
 -- ---- fronts and ends
 
 module _ (i : Bool) (v w : List ℕ) where
-  pub begins_short : length v < length w → starts_with nat_eq (spelled i v) (spelled i w) ≡ false
-  begins_short h =
-      other_length (spelled i w) (take (length (spelled i w)) (spelled i v))
-      (λ e. grind (arith, common_steps, length-spelled i v, length-spelled i w, e))
-
   pub begins_by : (r : Bool) → r ≡ bytes_eq (spelled i w) (spelled i (take (length w) v)) → r ≡ starts_with nat_eq (spelled i v) (spelled i w)
   begins_by r h =
       h ∙ ap (bytes_eq (spelled i w)) (sym (take-spelled i (length w) v))
       ∙ ap (λ n. bytes_eq (spelled i w) (take n (spelled i v))) (sym (length-spelled i w))
-
-  pub ends_short : length v < length w → ends_with nat_eq (spelled i v) (spelled i w) ≡ false
-  ends_short h =
-      other_length (spelled i w) (drop (length (spelled i v) - length (spelled i w)) (spelled i v))
-      (λ e. grind (arith, common_steps, length-spelled i v, length-spelled i w, e))
 
   pub ends_by : (r : Bool) → r ≡ bytes_eq (spelled i w) (spelled i (take (length v - (length v - length w)) (drop (length v - length w) v))) →
       r ≡ ends_with nat_eq (spelled i v) (spelled i w)

@@ -16,11 +16,11 @@ is_element_kind Text = false
 is_element_kind Comment = false
 
 -- the combinator leads from the nearest of its sources alone
-abbrev pub near : Place → Bool
-near Child = true
-near Descendant = false
-near Next = true
-near After = false
+abbrev pub is_one_step : Place → Bool
+is_one_step Child = true
+is_one_step Descendant = false
+is_one_step Next = true
+is_one_step After = false
 
 -- the text of a text node
 abbrev pub text_in : Option Content → List ℕ

@@ -1,11 +1,11 @@
 //! The nodes below an element, and their texts.
-ghost use Rattle.std.specs.Prelude.{◌≡◌, ◌-◌, true, IfOk, IfSome, OnOk, ◌++◌, nat_le, nat_lt, if◌then◌else◌};
+ghost use Rattle.std.specs.Prelude.{◌≡◌, ◌-◌, true, IfOk, nat_le, nat_lt, if◌then◌else◌};
 ghost use Rattle.page_tree.specs.Directions.{is_in};
 ghost use Rattle.page_tree.specs.Facts.{text_content, text_length, is_blank};
 ghost use Rattle.page_tree.specs.Forest.{rooted, find, content, behind};
 ghost use Rattle.page_tree.specs.Standings.{inner};
 ghost use Rattle.page_tree.specs.Words.{utf16_length};
-ghost use Rattle.selector_match.specs.Asked.{IsElement, below, own_text, text_in, fills};
+ghost use Rattle.selector_match.specs.Asked.{IsElement, below, own_text, fills};
 
 use dom_arena::{Dom, NodeKind, NodeRef};
 use listed::Text;

@@ -14,7 +14,7 @@ use crate::literals::has_literal;
 use crate::plain::{attrs_of, holds_by_page};
 use crate::texts::holds_text;
 use cos_outside::Steps;
-use cos_patterns::PatternTable;
+use cos_patterns::PatternSearcher;
 use dom_arena::Dom;
 use selector_tree::{Arg, Test};
 use std::alloc::{AllocError, Global};
@@ -29,7 +29,7 @@ pub fn holds<P: Ledger>(
     alloc: Global,
     dom: &Dom,
     path: &str,
-    table: &PatternTable,
+    table: &PatternSearcher<'_>,
     test: &Test,
     x: u32,
     parts: &mut Steps<P>,
@@ -37,7 +37,8 @@ pub fn holds<P: Ledger>(
     requires element { IsElement dom.now x }
     requires single { is_single test.now ≡ true }
     requires ready { is_ready table.now.patterns test.now ≡ true }
-    ensures answer { IfOk result (λ answer. answer ≡ holds pattern_found dom.now path.now test.now x) }
+    ensures answer { IfOk result (λ answer. answer ≡ holds pattern_found dom.now path.now test.now
+        x) }
     ensures counted { parts.new ≡ parts.old + 1 }
 {
     parts.tick();
@@ -49,7 +50,7 @@ fn holds_by_text(
     alloc: Global,
     dom: &Dom,
     path: &str,
-    table: &PatternTable,
+    table: &PatternSearcher<'_>,
     test: &Test,
     x: u32,
 ) -> Result<bool, AllocError>
@@ -70,7 +71,7 @@ fn holds_by_text(
 fn has_text(
     alloc: Global,
     dom: &Dom,
-    table: &PatternTable,
+    table: &PatternSearcher<'_>,
     arg: &Arg,
     x: u32,
 ) -> Result<bool, AllocError>
@@ -89,7 +90,7 @@ fn has_text(
 }
 
 // Whether a text holds the literal, or the pattern is found in it.
-fn is_found(table: &PatternTable, text: &str, arg: &Arg) -> Result<bool, AllocError>
+fn is_found(table: &PatternSearcher<'_>, text: &str, arg: &Arg) -> Result<bool, AllocError>
     requires { is_held table.now.patterns arg.now ≡ true }
     ensures { IfOk result (λ answer. answer ≡ is_found pattern_found arg.now text.now) }
 {
@@ -100,7 +101,7 @@ fn is_found(table: &PatternTable, text: &str, arg: &Arg) -> Result<bool, AllocEr
 }
 
 // Whether a text is the literal, or the pattern is found in it.
-fn is_named(table: &PatternTable, text: &str, arg: &Arg) -> Result<bool, AllocError>
+fn is_named(table: &PatternSearcher<'_>, text: &str, arg: &Arg) -> Result<bool, AllocError>
     requires { is_held table.now.patterns arg.now ≡ true }
     ensures { IfOk result (λ answer. answer ≡ is_named pattern_found arg.now text.now) }
 {
@@ -110,7 +111,11 @@ fn is_named(table: &PatternTable, text: &str, arg: &Arg) -> Result<bool, AllocEr
     }
 }
 
-fn is_named_if_any(table: &PatternTable, text: &str, arg: &Option<Arg>) -> Result<bool, AllocError>
+fn is_named_if_any(
+    table: &PatternSearcher<'_>,
+    text: &str,
+    arg: &Option<Arg>,
+) -> Result<bool, AllocError>
     requires { is_held_or_none table.now.patterns arg.now ≡ true }
     ensures { IfOk result (λ answer. answer ≡ is_named_by pattern_found arg.now text.now) }
 {
@@ -122,7 +127,7 @@ fn is_named_if_any(table: &PatternTable, text: &str, arg: &Option<Arg>) -> Resul
 
 // Whether an element has an attribute of such a name and such a value.
 fn has_attr_by(
-    table: &PatternTable,
+    table: &PatternSearcher<'_>,
     dom: &Dom,
     x: u32,
     name: &Arg,
@@ -130,7 +135,9 @@ fn has_attr_by(
 ) -> Result<bool, AllocError>
     requires name { is_held table.now.patterns name.now ≡ true }
     requires value { is_held_or_none table.now.patterns value.now ≡ true }
-    ensures { IfOk result (λ answer. answer ≡ list_any (λ a. is_named pattern_found name.now a.0 && is_named_by pattern_found value.now a.1) (attrs dom.now x)) }
+    ensures { IfOk result (λ answer. answer ≡
+        list_any (λ a. is_named pattern_found name.now a.0 && is_named_by pattern_found value.now
+        a.1) (attrs dom.now x)) }
 {
     for attr in attrs_of(dom, x) {
         if fits_by(table, attr.0.as_str(), attr.1.as_str(), name, value)? {
@@ -141,7 +148,7 @@ fn has_attr_by(
 }
 
 fn fits_by(
-    table: &PatternTable,
+    table: &PatternSearcher<'_>,
     own_name: &str,
     own_value: &str,
     name: &Arg,
@@ -149,7 +156,9 @@ fn fits_by(
 ) -> Result<bool, AllocError>
     requires name { is_held table.now.patterns name.now ≡ true }
     requires value { is_held_or_none table.now.patterns value.now ≡ true }
-    ensures { IfOk result (λ answer. answer ≡ (is_named pattern_found name.now own_name.now && is_named_by pattern_found value.now own_value.now)) }
+    ensures { IfOk result (λ answer. answer ≡
+        (is_named pattern_found name.now own_name.now && is_named_by pattern_found value.now
+        own_value.now)) }
 {
     if is_named(table, own_name, name)? {
         is_named_if_any(table, own_value, value)

@@ -20,6 +20,6 @@ mod words;
 pub use around::{is_element, next, parent, previous};
 pub use below::next_below;
 pub use full::holds;
-pub use places::{in_place, is_near, source};
+pub use places::{in_place, source};
 pub use plain::{holds_by_page, holds_plain, is_plain};
 pub use walks::{first_child, first_target, next_element, next_element_below, next_target};

@@ -1,7 +1,7 @@
 //! Where combinators lead.
 ghost use Rattle.std.specs.Prelude.{◌≡◌, [], ◌∷◌, MatchOption, IfSome};
 ghost use Rattle.selector_meaning.specs.Meaning.{is_there};
-ghost use Rattle.selector_match.specs.Asked.{IsElement, sources, near};
+ghost use Rattle.selector_match.specs.Asked.{IsElement, sources, is_one_step};
 
 use crate::around::{parent, previous};
 use dom_arena::Dom;
@@ -17,7 +17,7 @@ pub fn in_place(dom: &Dom, place: Place, from: u32, x: u32) -> bool
         if y == from {
             return true;
         }
-        if is_near(place) {
+        if is_one_step(place) {
             return false;
         }
         at = y;
@@ -37,9 +37,9 @@ pub fn source(dom: &Dom, place: Place, x: u32) -> Option<u32>
     }
 }
 
-/// Whether a combinator leads from the nearest of its sources alone.
-pub fn is_near(place: Place) -> bool
-    ensures { result ≡ near place }
+// Whether a combinator leads from the nearest of its sources alone.
+fn is_one_step(place: Place) -> bool
+    ensures { result ≡ is_one_step place }
 {
     match place {
         Place::Child | Place::Next => true,

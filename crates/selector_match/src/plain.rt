@@ -1,5 +1,5 @@
 //! Tests that look at the page alone.
-ghost use Rattle.std.specs.Prelude.{◌+◌, ◌≡◌, true, ◌&&◌, ◌++◌, MatchOption, None, Some, IsTrue, codes};
+ghost use Rattle.std.specs.Prelude.{◌+◌, ◌≡◌, true, ◌&&◌, ◌++◌, MatchOption, None, Some, codes};
 ghost use Rattle.std.specs.List.{list_any};
 ghost use Rattle.std.specs.Str.{bytes_eq};
 ghost use Rattle.page_tree.specs.Facts.{attr, class_list};
@@ -12,7 +12,7 @@ ghost use Rattle.selector_match.specs.Kinds.{is_plain, is_literal, is_literal_or
 
 use crate::around::parent;
 use crate::below::{has_units, is_blank};
-use crate::siblings::{has_beside, is_nth, name_of, place_of};
+use crate::siblings::{has_sibling, is_nth, name_of, place_of};
 use crate::texts::{fits, holds_text};
 use crate::words::has_word;
 use cos_outside::Steps;
@@ -149,7 +149,7 @@ fn is_only(dom: &Dom, x: u32, of_name: bool) -> bool
     requires { IsElement dom.now x }
     ensures { result ≡ is_empty (of_same_name of_name (name dom.now x) (before dom.now x ++ after dom.now x)) }
 {
-    !has_beside(dom, x, false, of_name) && !has_beside(dom, x, true, of_name)
+    !has_sibling(dom, x, false, of_name) && !has_sibling(dom, x, true, of_name)
 }
 
 // Whether a text holds a literal.

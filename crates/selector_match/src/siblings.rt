@@ -20,7 +20,7 @@ pub(crate) fn name_of(dom: &Dom, x: u32) -> &str
 }
 
 // The nearest element sibling on one side.
-fn beside(dom: &Dom, later: bool, x: u32) -> Option<u32>
+fn nearest_sibling(dom: &Dom, later: bool, x: u32) -> Option<u32>
     requires { IsElement dom.now x }
     ensures first { MatchOption result (side dom.now later x ≡ []) (λ y. side dom.now later x ≡ sibling dom.now y ∷ side dom.now later y) }
     ensures element { IfSome result (λ y. IsElement dom.now y) }
@@ -41,7 +41,7 @@ pub(crate) fn place_of(dom: &Dom, x: u32, from_end: bool, of_name: bool) -> u32
     let own = name_of(dom, x);
     let mut place = 1;
     let mut at = x;
-    'siblings: while let Some(y) = beside(dom, from_end, at) {
+    'siblings: while let Some(y) = nearest_sibling(dom, from_end, at) {
         if !of_name || name_of(dom, y) == own {
             place += 1;
         }
@@ -51,13 +51,13 @@ pub(crate) fn place_of(dom: &Dom, x: u32, from_end: bool, of_name: bool) -> u32
 }
 
 /// Whether an element has a sibling, or one of its name, on one side.
-pub(crate) fn has_beside(dom: &Dom, x: u32, later: bool, of_name: bool) -> bool
+pub(crate) fn has_sibling(dom: &Dom, x: u32, later: bool, of_name: bool) -> bool
     requires { IsElement dom.now x }
     ensures { result ≡ not (is_empty (of_same_name of_name (name dom.now x) (side dom.now later x))) }
 {
     let own = name_of(dom, x);
     let mut at = x;
-    'siblings: while let Some(y) = beside(dom, later, at) {
+    'siblings: while let Some(y) = nearest_sibling(dom, later, at) {
         if !of_name || name_of(dom, y) == own {
             return true;
         }

@@ -1,5 +1,7 @@
-use Rattle.std.proofs.Common.{◌≤◌, ◌+◌, ℕ, List, OnOk, length, sym, subst}
+use Rattle.std.proofs.Common.{◌≡◌, ◌≤◌, ◌<◌, ◌+◌, true, ℕ, List, OnOk, length, sym, subst}
 use Rattle.cos_patterns.specs.Found.{pattern_found}
+use Rattle.cos_patterns.specs.Tables.{Noted}
+use Rattle.proper_filters.specs.Proper.{is_proper}
 use Rattle.page_tree.specs.Standings.{all}
 use Rattle.selector_meaning.specs.Meaning.{selects}
 use Rattle.procedural_ops.specs.Told.{selector_at}
@@ -13,7 +15,14 @@ use Rattle.hide_engine.proofs.Following.{proper_at}
 use Rattle.hide_engine.proofs.asking.ask_again.Goals as goal
 
 pub retest-requires : goal.retest-requires
-retest-requires g c = record { proper = proper_at c.args.filters.now c.requires.ready; filed = c.requires.ready.filed }
+retest-requires g c =
+    let active = c.args.filters.now.active in
+    record {
+      proper =
+          subst (λ (table : Noted). (f : ℕ) → f < length active → is_proper table.patterns (selector_at active f) ≡ true) (sym c.new-table.ensures)
+          (proper_at c.args.filters.now c.requires.ready);
+      filed = c.requires.ready.filed;
+    }
 
 pub returns-clause-exact : goal.returns-clause-exact
 returns-clause-exact g c =

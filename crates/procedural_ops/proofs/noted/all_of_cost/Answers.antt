@@ -16,7 +16,7 @@ loop-step-init g c = record {
 }
 
 pub step_keeps-requires-clause-proper : goal.step_keeps-requires-clause-proper
-step_keeps-requires-clause-proper g c = weights.own_step_at c.args.inquiry.now.table.now.patterns c.args.run.now c.loop-step.step-index c.step-item.result c.loop-step-test.true c.step-item.is c.requires.proper
+step_keeps-requires-clause-proper g c = weights.own_step_at c.args.inquiry.now.context.table.now.patterns c.args.run.now c.loop-step.step-index c.step-item.result c.loop-step-test.true c.step-item.is c.requires.proper
 
 pub step_keeps-requires-clause-at : goal.step_keeps-requires-clause-at
 step_keeps-requires-clause-at g c =
@@ -25,9 +25,9 @@ step_keeps-requires-clause-at g c =
 
 pub loop-step-preserved : goal.loop-step-preserved
 loop-step-preserved g c = record {
-  kept = list_all_more (cost_keeps c.args.inquiry.now.dom.now c.args.inquiry.now.path.now c.args.cost c.args.x) c.args.run.now c.loop-step.step-index c.step-item.result c.loop-step-test.true
+  kept = list_all_more (cost_keeps c.args.inquiry.now.context.dom.now c.args.inquiry.now.context.path.now c.args.cost c.args.x) c.args.run.now c.loop-step.step-index c.step-item.result c.loop-step-test.true
       ∙ and_from _ _ c.loop-step.invariant.kept
-      (ap (cost_keeps c.args.inquiry.now.dom.now c.args.inquiry.now.path.now c.args.cost c.args.x) (sym c.step-item.is) ∙ sym c.in_ok-step_keeps.ensures.answer ∙ c.if-not-branch.false);
+      (ap (cost_keeps c.args.inquiry.now.context.dom.now c.args.inquiry.now.context.path.now c.args.cost c.args.x) (sym c.step-item.is) ∙ sym c.in_ok-step_keeps.ensures.answer ∙ c.if-not-branch.false);
   at = parts.place_more c.args.begin c.loop-step.place c.in_ok-place.place c.loop-step.step-index c.args.run.now c.step-item.result c.loop-step-test.true c.step-item.is c.loop-step.invariant.at c.in_ok-place.ensures;
   right = c.in_ok-step_keeps.ensures.right;
   asked = omega (arith, c.loop-step.invariant.asked, c.in_ok-step_keeps.ensures.asked);

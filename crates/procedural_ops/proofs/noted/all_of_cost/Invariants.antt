@@ -6,8 +6,8 @@ use Rattle.procedural_ops.proofs.noted.all_of_cost.Given as goal
 
 abbrev pub invariant-loop-step : goal.invariant-loop-step
 invariant-loop-step g l = record {
-  kept : list_all (cost_keeps l.inquiry.dom.now l.inquiry.path.now l.cost l.x) (take l.step-index l.run) ≡ true;
+  kept : list_all (cost_keeps l.inquiry.context.dom.now l.inquiry.context.path.now l.cost l.x) (take l.step-index l.run) ≡ true;
   at : l.place ≡ l.begin + length (chain_cells (take l.step-index l.run));
-  right : IsRight l.inquiry.dom.now l.inquiry.chain.now l.notes l.inquiry.path.now;
-  asked : l.parts + unknown l.inquiry.dom.now l.inquiry.chain.now l.notes ≤ l.fn.parts + unknown l.inquiry.dom.now l.inquiry.chain.now l.fn.notes;
+  right : IsRight l.inquiry.context.dom.now l.inquiry.chain.now l.notes l.inquiry.context.path.now;
+  asked : l.parts + unknown l.inquiry.context.dom.now l.inquiry.chain.now l.notes ≤ l.fn.parts + unknown l.inquiry.context.dom.now l.inquiry.chain.now l.fn.notes;
 }

@@ -10,8 +10,8 @@ test_holds-requires-clause-single g c = keeping.single_cost c.in-Keep.test c.arg
 
 pub test_holds-requires-clause-ready : goal.test_holds-requires-clause-ready
 test_holds-requires-clause-ready g c =
-    weights.ready_alone c.args.inquiry.now.table.now.patterns c.in-Keep.test (keeping.single_cost c.in-Keep.test c.args.cost (sym c.has_cost.ensures ∙ c.if-has_cost.true))
-    (weights.own_Keep c.args.inquiry.now.table.now.patterns c.args.step.now c.in-Keep.test c.in-Keep.is c.requires.proper).1
+    weights.ready_alone c.args.inquiry.now.context.table.now.patterns c.in-Keep.test (keeping.single_cost c.in-Keep.test c.args.cost (sym c.has_cost.ensures ∙ c.if-has_cost.true))
+    (weights.own_Keep c.args.inquiry.now.context.table.now.patterns c.args.step.now c.in-Keep.test c.in-Keep.is c.requires.proper).1
 
 pub test_holds-requires-clause-at : goal.test_holds-requires-clause-at
 test_holds-requires-clause-at g c =

@@ -1,4 +1,4 @@
-use Rattle.std.proofs.Common.{ℕ, Bool, List, length, sym, subst, arith}
+use Rattle.std.proofs.Common.{ℕ, Bool, List, sym, subst, arith}
 use Rattle.procedural_ops.specs.Noted.{IsRight, chain_cells}
 use Rattle.procedural_ops.proofs.Parts as parts
 use Rattle.procedural_ops.proofs.Remembered as remembered
