@@ -7,7 +7,7 @@ use Rattle.page_tree.specs.Directions.{is_in, head_is, numbers_of, holders}
 use Rattle.page_tree.specs.Trees.{IsTree}
 use Rattle.page_tree.proofs.Around.{above-parent}
 use Rattle.page_tree.proofs.Sides.{previous_side}
-use Rattle.selector_match.proofs.Siblings.{not_document}
+use Rattle.selector_match.proofs.SiblingLaws.{not_document}
 use Rattle.dependency_sets.specs.declared.near.Near.{Near}
 use Rattle.dependency_sets.specs.declared.near.Near.TheVariants.{Child, Parent, Next, Previous}
 use Rattle.dependency_sets.specs.Reaching.{is_place, IsPlace, leads_to, one_step, all_steps}

@@ -13,7 +13,7 @@ use Rattle.page_tree.proofs.Parts.{siblings_from, from_first_child, inside, pare
 use Rattle.page_tree.proofs.Below.{once-kids}
 use Rattle.page_tree.proofs.Sides.{next_side, previous_side}
 use Rattle.selector_match.specs.Asked.{IsElement, sibling}
-use Rattle.selector_match.proofs.Siblings.{not_document, first_is, forth_step, some_same}
+use Rattle.selector_match.proofs.SiblingLaws.{not_document, first_is, forth_step, some_same}
 use Rattle.dependency_sets.specs.Reaching.{is_place, IsPlace, leads_to, with_number, Adds}
 use Rattle.dependency_sets.proofs.Members.{never, same_by_iff, or_none, append_nil, is_in-with_number, begins-with_number}
 

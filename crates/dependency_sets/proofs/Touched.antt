@@ -10,7 +10,7 @@ use Rattle.page_tree.proofs.Members.{is_in-filter}
 use Rattle.page_tree.proofs.Elements.{HaveRoom, room-tree, room-find, once-tree, is_in-all, is_element}
 use Rattle.page_tree.proofs.Around.{above-parent}
 use Rattle.page_tree.proofs.Parts.{parent_some}
-use Rattle.selector_match.proofs.Siblings.{not_document}
+use Rattle.selector_match.proofs.SiblingLaws.{not_document}
 use Rattle.sensor_meaning.specs.declared.sensor.Sensor.{Sensor}
 use Rattle.sensor_meaning.specs.declared.change.Change.{Change}
 use Rattle.sensor_meaning.specs.Sensors.{Sensors}

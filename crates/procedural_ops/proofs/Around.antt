@@ -15,7 +15,7 @@ use Rattle.selector_meaning.specs.Texts.{Bytes}
 use Rattle.selector_meaning.specs.Meaning.{is_other, is_apart, is_beside, is_shown, parent}
 use Rattle.procedural_ops.specs.Others.{leads_below}
 use Rattle.selector_match.specs.Asked.{IsElement}
-use Rattle.selector_match.proofs.Siblings.{not_document}
+use Rattle.selector_match.proofs.SiblingLaws.{not_document}
 use Rattle.procedural_ops.specs.Reaching.{reached}
 use Rattle.procedural_ops.specs.Search.{some_target}
 use Rattle.selector_match.specs.Walks.{targets}

@@ -16,7 +16,7 @@ use Rattle.page_tree.proofs.Below.{once-kids}
 use Rattle.page_tree.proofs.Sides.{next_side, previous_side}
 use Rattle.selector_meaning.specs.Meaning.{is_there}
 use Rattle.selector_match.specs.Asked.{IsElement, below}
-use Rattle.selector_match.proofs.Siblings.{not_document, some_same}
+use Rattle.selector_match.proofs.SiblingLaws.{not_document, some_same}
 use Rattle.selector_match.specs.Walks.{after_in, elements_behind, targets}
 use Rattle.procedural_ops.proofs.Any.{same_by_iff, alone}
 

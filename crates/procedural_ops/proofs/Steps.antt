@@ -24,7 +24,7 @@ use Rattle.selector_meaning.specs.Texts.{Bytes}
 use Rattle.selector_meaning.specs.Meaning.{StepMeaning, TestMeaning, ChainMeaning, run, front, rest, gives, leads, option_is, ancestor, holds, step_meaning, test_meaning, from_some, is_there, selected_by, selects, is_other, is_apart, is_beside, is_shown}
 use Rattle.selector_meaning.proofs.Laws.{step_of-Keep, step_of-Move, step_of-Others, holds-Is, holds-Not, holds-Has}
 use Rattle.selector_match.specs.Asked.{below, is_one_step, sources}
-use Rattle.selector_match.proofs.Siblings.{is_there-sources}
+use Rattle.selector_match.proofs.SiblingLaws.{is_there-sources}
 use Rattle.proper_filters.specs.Proper.{are_inner}
 use Rattle.procedural_ops.specs.Reaching.{meaning, chain_meaning, reached, leads_from, chain_gives, some_gives, some_leads, is_selected, goes_up, goes_up_at, first_up_of, lifted, lifted_at}
 use Rattle.procedural_ops.specs.Search.{some_source, some_target, some_lifted}

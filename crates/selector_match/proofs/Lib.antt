@@ -1,5 +1,5 @@
 pub mod Border
-pub mod Siblings
+pub mod SiblingLaws
 pub mod Under
 pub mod Shown
 pub mod Values

@@ -8,7 +8,7 @@ use Rattle.page_tree.specs.Trees.{IsTree}
 use Rattle.page_tree.proofs.Finding.{same_cases}
 use Rattle.page_tree.proofs.Parts.{siblings_from, from_first_child}
 use Rattle.page_tree.proofs.Walk.{times}
-use Rattle.selector_match.proofs.Siblings.{forth_from}
+use Rattle.selector_match.proofs.SiblingLaws.{forth_from}
 use Rattle.selector_match.specs.Walks.{after_in, elements_behind}
 
 -- what is left of a walk that stands at a number, or at the end

@@ -18,7 +18,7 @@ use Rattle.page_tree.proofs.Parts.{siblings_from, inside, from_first_child, from
 use Rattle.page_tree.proofs.Below.{branch, beyond, behind-branch, beyond-top, beyond-branch-next, beyond-branch-up, once-branch, once-kids}
 use Rattle.page_tree.proofs.Walk.{times, tail, left_at, rest_of, times-numbers, left_at-behind, behind-times, left_was, left_is}
 use Rattle.selector_match.specs.Asked.{IsElement, below, own_text, text_in, fills}
-use Rattle.selector_match.proofs.Siblings.{not_document, first_is, some_same}
+use Rattle.selector_match.proofs.SiblingLaws.{not_document, first_is, some_same}
 
 -- the nodes below a node of a tree
 abbrev pub kids : Tree → ℕ → Forest

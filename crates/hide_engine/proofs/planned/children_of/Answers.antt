@@ -1,5 +1,5 @@
 use Rattle.std.proofs.Common.{subst, sym}
-use Rattle.selector_match.proofs.Siblings.{forth_falls}
+use Rattle.selector_match.proofs.SiblingLaws.{forth_falls}
 use Rattle.hide_engine.proofs.Children.{Walks, walk_start, walk_more}
 use Rattle.hide_engine.proofs.planned.children_of.Goals as goal
 

@@ -1,5 +1,5 @@
 use Rattle.std.proofs.Common.{◌∙◌}
-use Rattle.selector_match.proofs.Siblings.{not_document}
+use Rattle.selector_match.proofs.SiblingLaws.{not_document}
 use Rattle.procedural_ops.proofs.Chains.{beside_element}
 use Rattle.procedural_ops.proofs.places.is_beside.Goals as goal
 

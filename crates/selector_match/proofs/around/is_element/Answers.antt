@@ -1,6 +1,6 @@
 use Rattle.std.proofs.Common.{◌∙◌, ap}
 use Rattle.selector_match.specs.Asked.{is_element_kind}
-use Rattle.selector_match.proofs.Siblings.{element_kind, no_element}
+use Rattle.selector_match.proofs.SiblingLaws.{element_kind, no_element}
 use Rattle.selector_match.proofs.around.is_element.Goals as goal
 
 pub returns-in-None : goal.returns-in-None

@@ -1,5 +1,5 @@
 use Rattle.std.proofs.Common.{sym, ◌∙◌}
-use Rattle.selector_match.proofs.Siblings.{forth_start, forth_step, forth_here, forth_other, forth_falls}
+use Rattle.selector_match.proofs.SiblingLaws.{forth_start, forth_step, forth_here, forth_other, forth_falls}
 use Rattle.selector_match.proofs.around.next.Goals as goal
 
 pub nodes-init : goal.nodes-init

@@ -2,7 +2,7 @@ use Rattle.std.proofs.Common.{◌≡◌}
 use Rattle.page_tree.specs.Forest.{rooted, size, first}
 use Rattle.page_tree.specs.Standings.{after}
 use Rattle.page_tree.proofs.Parts.{siblings_from}
-use Rattle.selector_match.proofs.Siblings.{forth_from}
+use Rattle.selector_match.proofs.SiblingLaws.{forth_from}
 use Rattle.selector_match.proofs.around.next.Given as goal
 
 abbrev pub invariant-nodes : goal.invariant-nodes

@@ -1,4 +1,4 @@
-use Rattle.selector_match.proofs.Siblings.{no_parent, top_parent, up_parent}
+use Rattle.selector_match.proofs.SiblingLaws.{no_parent, top_parent, up_parent}
 use Rattle.selector_match.proofs.around.parent.Goals as goal
 
 pub returns-in-None-clause-first : goal.returns-in-None-clause-first

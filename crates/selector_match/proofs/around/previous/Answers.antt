@@ -1,5 +1,5 @@
 use Rattle.std.proofs.Common.{sym, ◌∙◌, ap, arith}
-use Rattle.selector_match.proofs.Siblings.{back_from, back_left, back_start, back_step, back_here, back_other}
+use Rattle.selector_match.proofs.SiblingLaws.{back_from, back_left, back_start, back_step, back_here, back_other}
 use Rattle.selector_match.proofs.around.previous.Goals as goal
 
 pub nodes-init : goal.nodes-init

@@ -1,7 +1,7 @@
 use Rattle.std.proofs.Common.{◌≡◌, ◌<◌, ℕ, Some}
 use Rattle.page_tree.specs.Forest.{count}
 use Rattle.page_tree.specs.Standings.{before}
-use Rattle.selector_match.proofs.Siblings.{back_from, back_left}
+use Rattle.selector_match.proofs.SiblingLaws.{back_from, back_left}
 use Rattle.selector_match.proofs.around.previous.Given as goal
 
 abbrev pub invariant-nodes : goal.invariant-nodes

@@ -1,7 +1,7 @@
 use Rattle.std.proofs.Common.{arith, rules}
 use Rattle.page_tree.specs.Standings.{name}
 use Rattle.selector_match.specs.Asked.{side}
-use Rattle.selector_match.proofs.Siblings.{side_few, named_few}
+use Rattle.selector_match.proofs.SiblingLaws.{side_few, named_few}
 use Rattle.selector_match.proofs.siblings.place_of.Goals as goal
 
 pub overflow_add-place : goal.overflow_add-place

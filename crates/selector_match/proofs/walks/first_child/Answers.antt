@@ -1,5 +1,5 @@
 use Rattle.std.proofs.Common.{sym, ◌∙◌}
-use Rattle.selector_match.proofs.Siblings.{forth_step, forth_here, forth_other, forth_falls}
+use Rattle.selector_match.proofs.SiblingLaws.{forth_step, forth_here, forth_other, forth_falls}
 use Rattle.selector_match.proofs.Onward.{child_start}
 use Rattle.selector_match.proofs.walks.first_child.Goals as goal
 
