@@ -1,7 +1,6 @@
 -- How a command ends: it is refused before anything is written, or ends with what was written of its texts.
-use Rattle.std.proofs.Common.{◌≡◌, ◌≤◌, ◌<◌, ◌∙◌, ℕ, Bool, false, List, [], ◌++◌, length, take, Option, Some, None, Result, Ok, Err, IsTrue, OnOk, IfErr, IsErrOf, arith, refl, sym, ap, subst, append-nil}
+use Rattle.std.proofs.Common.{◌≡◌, ◌∙◌, ℕ, Bool, false, List, ◌++◌, Option, Some, None, Result, Ok, Err, IsTrue, OnOk, IfErr, IsErrOf, arith, refl, sym, ap, subst, append-nil}
 use Rattle.std.specs.List.{concat}
-use Rattle.cos_outside.specs.Causes.{Rose}
 use Rattle.cos_outside.specs.Runs.{AppendsPrefix}
 use Rattle.cos_outside.specs.Writes.{AppendsFirst, WritesTexts}
 use Rattle.cos_patterns.specs.declared.written.Asked.{Asked}
@@ -15,7 +14,7 @@ use Rattle.command_words.specs.declared.command.Command.{Command}
 use Rattle.command_meaning.specs.Output.{Texts, status_by, texts_by, texts_due, texts_of}
 use Rattle.hide_report.specs.declared.writing.ReportError.{ReportError}
 use Rattle.hide_report.specs.declared.writing.ReportError.TheVariants.{WriteFault as OutputFault, NoMemory as OutputMemory}
-use Rattle.cosmetic_top.specs.Statuses.{IsFailed, is_refusal, status_of}
+use Rattle.cosmetic_top.specs.Statuses.{IsFailed, status_of}
 use Rattle.cosmetic_top.specs.Runs.{AppendsWhole, RunsAlone, RunsAs}
 
 failed_of : (status : Status) → IsInputError status → IsFailed status

@@ -1,5 +1,5 @@
 -- The parts of a report, written one after the other.
-use Rattle.std.proofs.Common.{◌≡◌, ◌∙◌, ℕ, Bool, List, [], ◌∷◌, ◌++◌, ◌≤◌, Result, Ok, Err, IfOk, length, arith, ap, subst, sym}
+use Rattle.std.proofs.Common.{◌≡◌, ◌∙◌, ℕ, Bool, List, ◌≤◌, Result, Ok, Err, IfOk, length, arith, ap, subst, sym}
 use Rattle.std.proofs.lemmas.List.{length-drop}
 use Rattle.cos_source.specs.Mark.{mark_length, without_mark}
 use Rattle.cos_outside.specs.Writes.{WritesTexts}

@@ -1,5 +1,5 @@
 -- What was read costs what is due of the files, and a page costs its opening and then its script.
-use Rattle.std.proofs.Common.{◌≡◌, ◌∙◌, ℕ, ◌+◌, ◌≤◌, List, [], map, Option, Some, None, Result, Ok, Err, refl, sym, ap, ap₂, arith}
+use Rattle.std.proofs.Common.{◌≡◌, ◌∙◌, ℕ, ◌+◌, ◌≤◌, List, [], map, Option, Some, Result, Ok, sym, ap, ap₂, arith}
 use Rattle.page_tree.specs.Forest.{Tree}
 use Rattle.cos_source.specs.Lines.{lines_of, numbered}
 use Rattle.cos_source.specs.Mark.{without_mark}
@@ -11,17 +11,15 @@ use Rattle.hostname_buckets.specs.Active.{active_with, entries_of}
 use Rattle.list_entries.specs.declared.entry.ListRead.{ListRead}
 use Rattle.selector_tree.specs.declared.filter.Filter.{Filter}
 use Rattle.engine_meaning.specs.States.{State}
-use Rattle.hide_engine.specs.Budgets.{start_budget, start_tests}
-use Rattle.remove_rounds.specs.Costs.{Costs, questions, single_tests}
-use Rattle.remove_rounds.proofs.Spending.{start_questions, start_singles}
+use Rattle.remove_rounds.specs.Costs.{Costs}
 use Rattle.page_steps.specs.Costs.{script_cost}
-use Rattle.page_steps.proofs.Unnumbered.{IgnoresNumbers, questions_bare, script_bare, singles_bare}
+use Rattle.page_steps.proofs.Unnumbered.{IgnoresNumbers, script_bare}
 use Rattle.command_words.specs.declared.command.Apply.{Apply}
 use Rattle.command_words.specs.declared.command.Command.{Command}
 use Rattle.command_inputs.specs.declared.inputs.ApplyInputs.{ApplyInputs}
 use Rattle.command_inputs.specs.declared.status.Status.{Status}
 use Rattle.command_inputs.specs.Due.{Files}
-use Rattle.command_meaning.specs.Numbers.{unnumbered_filter, unnumbered_list, unnumbered_state}
+use Rattle.command_meaning.specs.Numbers.{unnumbered_list, unnumbered_state}
 use Rattle.command_meaning.specs.Generator.{drill_script}
 use Rattle.command_meaning.specs.Report.{drill_address, drill_inputs, lists_from, opened_state}
 use Rattle.command_meaning.proofs.Active.{active_unnumbered}

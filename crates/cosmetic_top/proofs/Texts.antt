@@ -1,5 +1,5 @@
 -- What is written of what was read is what is due of the files.
-use Rattle.std.proofs.Common.{◌≡◌, ◌∙◌, ◌+◌, ℕ, Bool, List, [], ◌∷◌, ◌++◌, suc, length, map, refl, sym, ap, ap₂, subst}
+use Rattle.std.proofs.Common.{◌≡◌, ◌∙◌, ◌+◌, ℕ, Bool, List, [], ◌∷◌, ◌++◌, suc, length, map, refl, sym, ap, ap₂}
 use Rattle.std.proofs.lemmas.List.{length-map}
 use Rattle.page_tree.specs.Forest.{Tree}
 use Rattle.cos_source.specs.Lines.{lines_of, numbered}
@@ -12,14 +12,13 @@ use Rattle.host_names.specs.SuffixLines.{bad_lines, rules_of}
 use Rattle.hostname_buckets.specs.Active.{active_among, active_with, entries_of}
 use Rattle.list_entries.specs.declared.entry.ListRead.{ListRead}
 use Rattle.list_entries.specs.declared.notice.Notice.{Notice}
-use Rattle.selector_tree.specs.declared.filter.Filter.{Filter}
 use Rattle.engine_meaning.specs.States.{State}
 use Rattle.hide_report.specs.Texts.{counts_text, drill_text, head_text, notices_text}
 use Rattle.command_inputs.specs.declared.inputs.ApplyInputs.{ApplyInputs}
 use Rattle.command_inputs.specs.declared.inputs.Sources.{Sources}
 use Rattle.command_meaning.specs.Generator.{drill_list}
 use Rattle.command_meaning.specs.Numbers.{unnumbered_list}
-use Rattle.command_meaning.specs.Report.{apply_report, bad_suffix, drill_address, drill_report, lists_from, lists_report, lists_texts, opened_state, steps_texts}
+use Rattle.command_meaning.specs.Report.{apply_report, bad_suffix, drill_report, lists_from, lists_report, lists_texts, steps_texts}
 use Rattle.command_meaning.proofs.Reports.{apply_unnumbered, drill_unnumbered, lists_unnumbered}
 use Rattle.list_files.specs.declared.reading.SourcesRead.{SourcesRead}
 use Rattle.cosmetic_top.specs.Reports.{IsDrillState, counts_of, drilled, report_of, state_of}

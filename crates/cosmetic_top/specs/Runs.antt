@@ -1,7 +1,7 @@
 -- What a command promises of its shelf and its sink. The shelf is seen by four functions: whether it tells its files, the files by
 -- name, the names begun, and its count of faults; the sink by three: whether it tells what was written, the bytes written, and its
 -- count of faults.
-use Rattle.std.specs.Prelude.{ℕ, ◌≡◌, ◌≤◌, Bool, true, false, List, [], ◌++◌, None, length, take, IsTrue, Result, Ok, OnOk, IfErr, IsErrOf}
+use Rattle.std.specs.Prelude.{ℕ, ◌≡◌, ◌≤◌, Bool, true, false, List, [], ◌++◌, None, length, take, IsTrue, Result, OnOk, IfErr, IsErrOf}
 use Rattle.std.specs.List.{concat}
 use Rattle.cos_outside.specs.Causes.{Rose}
 use Rattle.cos_outside.specs.Runs.{AppendsPrefix}

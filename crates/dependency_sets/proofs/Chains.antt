@@ -1,8 +1,8 @@
 -- Where many steps lead, from where one does.
-use Rattle.std.proofs.Common.{◌≡◌, ℕ, Bool, true, false, not, ◌&&◌, ◌||◌, ◌==◌, ◌⊎◌, inl, inr, List, [], ◌∷◌, ◌++◌, cond, refl, sym, ap, ap₂, ◌∙◌, subst}
+use Rattle.std.proofs.Common.{◌≡◌, ℕ, Bool, true, false, not, ◌&&◌, ◌==◌, ◌⊎◌, inl, inr, List, [], ◌∷◌, ◌++◌, cond, refl, sym, ap, ◌∙◌, subst}
 use Rattle.std.proofs.lemmas.Bool.{eqb-true, eq-eqb, ne_eqb, or_cases, or_left, or_right, and_from, and_parts}
 use Rattle.page_tree.specs.Forest.{Tree}
-use Rattle.page_tree.specs.Standings.{all, above, before}
+use Rattle.page_tree.specs.Standings.{before}
 use Rattle.page_tree.specs.Directions.{is_in, head_is, numbers_of, holders}
 use Rattle.page_tree.specs.Trees.{IsTree}
 use Rattle.page_tree.proofs.Around.{above-parent}

@@ -1,12 +1,12 @@
 -- A walk that looks at each number once, and adds where one step leads from it.
-use Rattle.std.proofs.Common.{◌≡◌, ℕ, suc, ◌+◌, Bool, true, false, ◌||◌, ◌&&◌, ◌==◌, inl, inr, List, [], ◌∷◌, ◌++◌, take, Option, Some, None, refl, sym, ap, ◌∙◌, subst, arith}
+use Rattle.std.proofs.Common.{◌≡◌, ℕ, suc, ◌+◌, true, ◌||◌, inl, inr, List, [], ◌∷◌, ◌++◌, take, Some, None, sym, ap, ◌∙◌, subst, arith}
 use Rattle.std.specs.Prelude.{slice_get}
 use Rattle.std.proofs.lemmas.Bool.{or_cases, or_left, or_right, and_parts}
 use Rattle.page_tree.specs.Forest.{Tree}
 use Rattle.page_tree.specs.Directions.{is_in}
 use Rattle.page_tree.specs.Trees.{IsTree}
 use Rattle.dependency_sets.specs.declared.near.Near.{Near}
-use Rattle.dependency_sets.specs.Reaching.{is_place, IsPlace, ArePlaces, leads_to, leads_from, one_step, all_steps, Adds, Closes}
+use Rattle.dependency_sets.specs.Reaching.{is_place, ArePlaces, leads_to, leads_from, one_step, all_steps, Adds, Closes}
 use Rattle.dependency_sets.proofs.Members.{never, same_by_iff, any-made, any-found, is_in-get, take-get, take-past, is_in-append, alone}
 use Rattle.dependency_sets.proofs.Chains.{Follows, follows}
 

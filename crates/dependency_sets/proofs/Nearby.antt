@@ -1,13 +1,12 @@
 -- Where one step leads from a place, by what the walks find.
 use Rattle.std.proofs.Common.{◌≡◌, ℕ, ◌<◌, Bool, true, false, not, ◌&&◌, ◌||◌, ◌==◌, ◌⊎◌, inl, inr, List, [], ◌∷◌, ◌++◌, Option, Some, None, option_map, unwrap_or, refl, sym, ap, ap₂, ◌∙◌, subst, append_assoc, arith}
-use Rattle.std.proofs.lemmas.Bool.{eqb-true, eq-eqb, ne_eqb, both_ways, or_cases, or_left, or_right, and_from, and_parts, cases_Bool, cases_eq}
-use Rattle.std.specs.List.{list_any}
+use Rattle.std.proofs.lemmas.Bool.{eqb-true, eq-eqb, ne_eqb, both_ways, or_cases, or_right, and_from, and_parts, cases_eq}
 use Rattle.page_tree.specs.Forest.{Forest, Tree, rooted, count, tops, first, find, children, later_of, parent_in}
-use Rattle.page_tree.specs.Standings.{Sibling, Standing, standing, all, above, before, after}
+use Rattle.page_tree.specs.Standings.{Standing, standing, all, before, after}
 use Rattle.page_tree.specs.Directions.{is_in, head_is, numbers_of, holders, to_child, to_parent, to_next, to_previous}
 use Rattle.page_tree.specs.Trees.{IsTree}
 use Rattle.page_tree.proofs.Finding.{find-none, find-rooted}
-use Rattle.page_tree.proofs.Elements.{Seen, seen_of, once-tree, room-tree, standing-find, seen_at}
+use Rattle.page_tree.proofs.Elements.{seen_of, once-tree, room-tree, standing-find, seen_at}
 use Rattle.page_tree.proofs.Around.{above-parent, element_counted}
 use Rattle.page_tree.proofs.Parts.{siblings_from, from_first_child, inside, parent_some, tops_counted, tops_parent}
 use Rattle.page_tree.proofs.Below.{once-kids}

@@ -1,25 +1,23 @@
 -- Sets of sensors with the same members.
-use Rattle.std.proofs.Common.{◌≡◌, ℕ, Bool, true, false, not, ◌&&◌, ◌||◌, List, [], ◌∷◌, refl, sym, ap, ap₂, ◌∙◌, inl, inr, ◌⊎◌}
+use Rattle.std.proofs.Common.{◌≡◌, Bool, true, false, not, ◌&&◌, ◌||◌, [], ◌∷◌, refl, sym, ap, ap₂, ◌∙◌, inl, inr, ◌⊎◌}
 use Rattle.std.specs.declared.cmp.Ordering.{Ordering}
 use Rattle.std.specs.declared.cmp.Ordering.TheVariants.{Less, Equal, Greater}
 use Rattle.std.specs.Cmp.{IsTotalOrder}
 use Rattle.std.specs.List.{list_any, AllByRecursion}
 use Rattle.std.specs.List.Sorted.{IsStrictlySortedBy}
 use Rattle.std.specs.Ordering.{is_eq, ordering_reverse}
-use Rattle.std.proofs.lemmas.Bool.{or_cases, or_left, or_right}
+use Rattle.std.proofs.lemmas.Bool.{or_cases, or_left}
 use Rattle.std.proofs.lemmas.Cmp.{then_total, on_total, nat_cmp_total, nat_list_cmp_total, tied_itself}
-use Rattle.page_tree.specs.Forest.{Tree}
 use Rattle.page_tree.specs.Standings.{all}
 use Rattle.page_tree.specs.Directions.{is_in}
 use Rattle.page_tree.proofs.Members.{filter-alike}
 use Rattle.sensor_meaning.specs.declared.sensor.Sensor.{Sensor}
-use Rattle.sensor_meaning.specs.declared.change.Change.{Change}
 use Rattle.sensor_meaning.specs.Sensors.{Sensors}
 use Rattle.sensor_meaning.specs.Order.{kind_at, name_at, ways_of, sensor_cmp, sensor_eq}
 use Rattle.sensor_meaning.specs.Changes.{observes, places_of}
 use Rattle.sensor_meaning.specs.Dirty.{hit, spread, is_reached, brought}
 use Rattle.sensor_meaning.proofs.Exact.{exact}
-use Rattle.dependency_sets.specs.Same.{AreSame, AreSorted}
+use Rattle.dependency_sets.specs.Same.{AreSame}
 use Rattle.dependency_sets.specs.Laws.{OneOrder, SameDirty}
 use Rattle.dependency_sets.proofs.Members.{never}
 

@@ -1,8 +1,8 @@
 -- The elements that sensors lead to, and those that came or moved.
-use Rattle.std.proofs.Common.{◌≡◌, ℕ, ◌+◌, ◌<◌, Bool, true, false, not, ◌&&◌, ◌||◌, ◌==◌, inl, inr, List, [], ◌∷◌, ◌++◌, take, length, get_or, refl, sym, ap, ap₂, ◌∙◌, cond, subst, Option, Some, None, unwrap_or}
-use Rattle.std.proofs.lemmas.Bool.{or_cases, or_left, or_right, and_from, and_parts, eqb-true, eq-eqb, ne_eqb}
+use Rattle.std.proofs.Common.{◌≡◌, ℕ, ◌+◌, ◌<◌, Bool, true, false, not, ◌&&◌, ◌||◌, ◌==◌, inl, inr, List, [], ◌∷◌, ◌++◌, take, length, get_or, refl, sym, ap, ap₂, ◌∙◌, subst, unwrap_or}
+use Rattle.std.proofs.lemmas.Bool.{or_cases, or_left, or_right, and_from, and_parts, eqb-true, eq-eqb}
 use Rattle.std.specs.List.{list_any}
-use Rattle.page_tree.specs.Forest.{Content, document, element, text, comment, Forest, empty, node, Tree, count, tops, find, children, content, parent_in}
+use Rattle.page_tree.specs.Forest.{document, element, text, comment, Forest, empty, node, Tree, count, tops, find, children, content}
 use Rattle.page_tree.specs.Standings.{all, above}
 use Rattle.page_tree.specs.Directions.{is_in, holders, to_below}
 use Rattle.page_tree.specs.Trees.{IsTree}
@@ -20,7 +20,7 @@ use Rattle.dependency_sets.specs.declared.near.Near.TheVariants.{Child}
 use Rattle.dependency_sets.specs.Named.{is_led}
 use Rattle.dependency_sets.specs.Reaching.{is_place, IsPlace, ArePlaces, HasSame, Gains, leads_to, leads_from, with_number, Closes}
 use Rattle.dependency_sets.proofs.Members.{never, same_by_iff, any-append, any-made, any-found, or_none, is_in-with_number, is_in-append, alone}
-use Rattle.dependency_sets.proofs.Nearby.{place_cases, place_element, element_place, off_zero}
+use Rattle.dependency_sets.proofs.Nearby.{place_cases, place_element, off_zero}
 use Rattle.dependency_sets.proofs.Closing.{with_all}
 use Rattle.dependency_sets.proofs.Leading.{take-next, spread-alike}
 

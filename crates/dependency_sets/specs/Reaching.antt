@@ -1,5 +1,5 @@
 -- Steps from places of a page to others. A place is the document, which has number 0, or an element.
-use Rattle.std.specs.Prelude.{◌≡◌, ℕ, Bool, true, false, ◌&&◌, ◌||◌, List, [], ◌∷◌, ◌++◌, if◌then◌else◌}
+use Rattle.std.specs.Prelude.{◌≡◌, ℕ, Bool, true, ◌&&◌, ◌||◌, List, [], ◌∷◌, ◌++◌, if◌then◌else◌}
 use Rattle.std.specs.List.{list_any}
 use Rattle.page_tree.specs.Forest.{Tree}
 use Rattle.page_tree.specs.Standings.{all}

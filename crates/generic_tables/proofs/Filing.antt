@@ -1,8 +1,7 @@
 -- Filters stand at the numbers of their keys, and are found there.
-use Rattle.std.proofs.Common.{◌≡◌, ◌∙◌, ℕ, suc, zero, ◌+◌, ◌-◌, ◌<◌, ◌≤◌, Bool, true, false, ◌&&◌, ◌||◌, ◌==◌, List, [], ◌∷◌, map, length, take, drop, get_or, filter, ltb, leb, leb-true, refl, sym, ap, ap₂, subst, inl, inr, arith}
+use Rattle.std.proofs.Common.{◌≡◌, ◌∙◌, ℕ, suc, zero, ◌+◌, ◌-◌, ◌<◌, ◌≤◌, Bool, true, false, ◌&&◌, ◌||◌, ◌==◌, List, [], ◌∷◌, map, length, take, drop, get_or, ltb, leb, leb-true, refl, sym, ap, ap₂, subst, inl, inr, arith}
 use Rattle.std.specs.Prelude.{nat_lt}
 use Rattle.std.specs.List.{list_any}
-use Rattle.std.specs.Str.{bytes_eq}
 use Rattle.std.proofs.Math.Bool as bool
 use Rattle.std.specs.List.Sorted.{IsPartitionPoint}
 use Rattle.std.proofs.lemmas.Bool.{cases_Bool, eqb-true, eq-eqb, ltb-true, ltb-false, leb-false, or_left, or_right, false≢true}
@@ -12,7 +11,6 @@ use Rattle.std.proofs.lemmas.Slice.Eq.{bytes_eq-Decides}
 use Rattle.selector_tree.specs.declared.filter.Filter.{Filter}
 use Rattle.selector_tree.specs.declared.selector.Step.{Step}
 use Rattle.page_tree.specs.Directions.{is_in}
-use Rattle.page_tree.proofs.Members.{is_in-filter}
 use Rattle.generic_tables.specs.declared.keys.Key.{Key}
 use Rattle.generic_tables.specs.declared.keys.Key.TheVariants as key
 use Rattle.generic_tables.specs.declared.filters.Entry.{Entry}

@@ -1,5 +1,5 @@
 -- The numbers of patterns have no part in which keys a selector has.
-use Rattle.std.proofs.Common.{◌≡◌, ◌∙◌, ℕ, ◌++◌, ◌||◌, Option, Some, None, List, [], ◌∷◌, map, refl, sym, ap, ap₂}
+use Rattle.std.proofs.Common.{◌≡◌, ◌∙◌, ℕ, ◌||◌, Option, Some, None, List, [], ◌∷◌, map, refl, sym, ap, ap₂}
 use Rattle.std.specs.Prelude.{fold, option_map}
 use Rattle.std.proofs.lemmas.List.{map-append}
 use Rattle.selector_tree.specs.declared.selector.Step.{Step, out-Step}

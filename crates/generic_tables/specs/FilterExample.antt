@@ -1,5 +1,5 @@
 -- Worked filters by their keys.
-use Rattle.std.specs.Prelude.{◌≡◌, ℕ, true, false, List, [], ◌∷◌, codes, refl}
+use Rattle.std.specs.Prelude.{◌≡◌, true, false, List, [], ◌∷◌, codes, refl}
 use Rattle.selector_tree.specs.declared.filter.Action.TheVariants as action
 use Rattle.selector_tree.specs.declared.filter.Filter.{Filter}
 use Rattle.selector_tree.specs.declared.selector.Step.{Step}

@@ -1,7 +1,7 @@
 -- What a change leaves in the tree: the nodes that it names, and each element but those that went.
 use Rattle.std.proofs.Common.{◌≡◌, ℕ, ◌<◌, ◌+◌, Bool, true, false, ◌==◌, not, List, [], Some, None, refl, sym, ap, subst, ◌∙◌, inl, inr, arith}
 use Rattle.std.specs.Prelude.{unwrap_or}
-use Rattle.std.proofs.lemmas.Bool.{eqb-true, cases_eq, or_right}
+use Rattle.std.proofs.lemmas.Bool.{cases_eq}
 use Rattle.page_tree.specs.Forest.{document, element, text, comment, Forest, empty, node, Tree, same, count, find, children, content}
 use Rattle.page_tree.specs.Edits.{alone}
 use Rattle.page_tree.specs.Standings.{all}

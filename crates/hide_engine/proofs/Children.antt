@@ -2,7 +2,7 @@
 use Rattle.std.proofs.Common.{◌≡◌, ℕ, zero, suc, ◌+◌, ◌-◌, ◌≤◌, List, [], ◌∷◌, ◌++◌, Option, Some, None, length, take, drop, refl, sym, ap, ap₂, ◌∙◌, inl, inr, arith, append_assoc}
 use Rattle.std.proofs.lemmas.Bool.{cases_lt, lt-ltb}
 use Rattle.std.proofs.Math.Seq.{take-append_seam}
-use Rattle.page_tree.specs.Forest.{Forest, empty, node, Tree, rooted, count, first, find, later_of, children, tops, size}
+use Rattle.page_tree.specs.Forest.{Forest, empty, node, Tree, rooted, count, first, find, later_of, children, tops}
 use Rattle.page_tree.specs.Edits.{joined, insert_at, children_of, added}
 use Rattle.page_tree.specs.Fragments.{fragment_nodes, with_fragment}
 use Rattle.page_tree.specs.Refusals.{BadPlace, parent_refused, place_past, place_refused, graft_refused}

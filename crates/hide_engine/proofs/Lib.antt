@@ -6,6 +6,7 @@ mod Taking
 mod Names
 mod Events
 mod Filing
+mod Asked
 mod Changed
 mod Mutations
 mod Following

@@ -16,6 +16,21 @@ use retest::{Asking, Pending, retest, start};
 use std::alloc::{AllocError, Global};
 use std::sync::ledger::Ledger;
 
+// What is asked of a page by some filters.
+fn asking_of<'a, 'p>(context: MatchingContext<'a, 'p>, filters: &'a FilterSet) -> Asking<'a, 'p>
+    ensures context { result.context ≡ context.entry }
+    ensures active { result.active.now ≡ filters.now.active }
+    ensures keyed { result.keyed.now ≡ filters.now.keyed }
+    ensures groups { result.groups.now ≡ filters.now.groups.numbers }
+{
+    Asking {
+        context,
+        active: &filters.active,
+        keyed: &filters.keyed,
+        groups: filters.groups.numbers.as_slice(),
+    }
+}
+
 /// Asks again what is pending, and nothing else: a filter is asked of the elements at which its group is pending and that
 /// carry a key of it. The answer is whether a mark is another one than before.
 pub(crate) fn ask_again<L: Ledger, P: Ledger>(
@@ -36,17 +51,13 @@ pub(crate) fn ask_again<L: Ledger, P: Ledger>(
 {
     // One searcher for all that is asked here, so that a pattern's working memory isn't made for each element.
     let table = PatternSearcher::new(&filters.table);
-    let asking = Asking {
-        context: MatchingContext {
-            alloc,
-            dom: &page.tree,
-            path: page.path.as_str(),
-            table: &table,
-        },
-        active: &filters.active,
-        keyed: &filters.keyed,
-        groups: filters.groups.numbers.as_slice(),
+    let context = MatchingContext {
+        alloc,
+        dom: &page.tree,
+        path: page.path.as_str(),
+        table: &table,
     };
+    let asking = asking_of(context, filters);
     retest(&asking, pending, marks, checks, parts)
 }
 
@@ -65,16 +76,12 @@ pub(crate) fn ask_everything<L: Ledger, P: Ledger>(
 {
     // One searcher for all that is asked here, so that a pattern's working memory isn't made for each element.
     let table = PatternSearcher::new(&filters.table);
-    let asking = Asking {
-        context: MatchingContext {
-            alloc,
-            dom: &page.tree,
-            path: page.path.as_str(),
-            table: &table,
-        },
-        active: &filters.active,
-        keyed: &filters.keyed,
-        groups: filters.groups.numbers.as_slice(),
+    let context = MatchingContext {
+        alloc,
+        dom: &page.tree,
+        path: page.path.as_str(),
+        table: &table,
     };
+    let asking = asking_of(context, filters);
     start(&asking, checks, parts)
 }

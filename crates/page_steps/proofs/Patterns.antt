@@ -1,8 +1,8 @@
 -- The numbers of patterns have no part in what a selector observes, and in how many single tests it has.
-use Rattle.std.proofs.Common.{◌≡◌, ◌∙◌, ℕ, ◌+◌, ◌++◌, List, [], ◌∷◌, map, length, length-append, refl, sym, ap, ap₂, subst}
+use Rattle.std.proofs.Common.{◌≡◌, ◌∙◌, ◌+◌, List, [], ◌∷◌, map, length, length-append, refl, sym, ap, ap₂, subst}
 use Rattle.selector_tree.specs.declared.selector.Step.{Step}
 use Rattle.selector_tree.specs.declared.selector.Step.TheOpen.{Step-F, Test-F}
-use Rattle.selector_tree.specs.declared.selector.Step.TheFolds.{fold-roll-Step, fold-roll-Test, map-Step, map-Test, ind-Step, ind-Test}
+use Rattle.selector_tree.specs.declared.selector.Step.TheFolds.{fold-roll-Step, fold-roll-Test, map-Step, map-Test, ind-Step}
 use Rattle.selector_tree.specs.declared.selector.Step.TheViews.{roll-Step, roll-Test}
 use Rattle.selector_tree.specs.declared.selector.Test.{Test}
 use Rattle.selector_tree.specs.Unnumbered.{unnumbered_layer, unnumbered_step, unnumbered_test, unnumbered}

@@ -1,5 +1,5 @@
 -- What changes, lines and scripts cost, also where they end early.
-use Rattle.std.proofs.Common.{◌≡◌, ◌∙◌, ℕ, ◌+◌, ◌≤◌, List, [], ◌∷◌, Result, Ok, Err, IsErr, refl, sym, ap, arith}
+use Rattle.std.proofs.Common.{◌≡◌, ◌∙◌, ℕ, ◌+◌, ◌≤◌, List, ◌∷◌, Result, Ok, Err, IsErr, refl, sym, ap, arith}
 use Rattle.std.specs.Result.{result_unwrap_or}
 use Rattle.page_tree.specs.Refusals.{Refusal}
 use Rattle.cos_source.specs.Lines.{lines_of, numbered}

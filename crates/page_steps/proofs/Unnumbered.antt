@@ -33,15 +33,14 @@ use Rattle.mutation_script.specs.Lines.{script_line}
 use Rattle.mutation_script.specs.Changes.{change}
 use Rattle.engine_meaning.specs.Filters.{has_action}
 use Rattle.engine_meaning.specs.Hidden.{acted_on}
-use Rattle.engine_meaning.specs.Rounds.{round, taken_in, taken_row}
+use Rattle.engine_meaning.specs.Rounds.{round, taken_row}
 use Rattle.engine_meaning.specs.States.{State, mutated, rounded, round_of}
 use Rattle.retest.specs.Priced.{most_tests, price}
 use Rattle.retest_laws.specs.Pending.{Pairs, budget}
-use Rattle.hide_engine.specs.Budgets.{budget_of, carried, event_budget, event_tests, round_budget, round_tests, start_budget, start_tests}
+use Rattle.hide_engine.specs.Budgets.{budget_of, carried, event_budget, round_budget, start_budget}
 use Rattle.hide_engine.specs.Changes.{change_of, dirtied_by, dirtied_without, is_dirty}
 use Rattle.hide_engine.proofs.Counting.{same_budget}
 use Rattle.remove_rounds.specs.Costs.{Costs, questions, rounds_cost, settling_cost, single_tests}
-use Rattle.remove_rounds.proofs.Spending.{event_questions, event_singles, round_questions, round_singles, start_questions, start_singles}
 use Rattle.command_meaning.specs.Numbers.{unnumbered_filter, unnumbered_state}
 use Rattle.command_meaning.specs.Report.{after_line, by_change, settling}
 use Rattle.command_meaning.proofs.Pages.{same_settled}

@@ -1,5 +1,5 @@
 -- What lines cost, computed: a change counted 10 and a round 1, on a page of one element. What is known of that page.
-use Rattle.std.specs.Prelude.{◌≡◌, [], ◌∷◌, codes, refl}
+use Rattle.std.specs.Prelude.{◌≡◌, [], codes, refl}
 use Rattle.page_tree.specs.Forest.{element, empty, node}
 use Rattle.page_tree.specs.Standings.{elements, standing}
 use Rattle.mutation_script.specs.declared.mutation.Mutation.TheVariants.{Delete, Path}

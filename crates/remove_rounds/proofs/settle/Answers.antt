@@ -1,4 +1,4 @@
-use Rattle.std.proofs.Common.{◌≡◌, ◌++◌, ◌+◌, ◌<◌, ◌≤◌, [], List, length, ap, sym, subst, refl, ◌∙◌, arith}
+use Rattle.std.proofs.Common.{◌++◌, ◌+◌, ◌<◌, List, length, ap, sym, subst, refl, ◌∙◌, arith}
 use Rattle.page_tree.specs.Trees.{IsTree}
 use Rattle.page_tree.specs.Standings.{all}
 use Rattle.cos_patterns.specs.Found.{pattern_found}
@@ -7,7 +7,7 @@ use Rattle.engine_meaning.specs.Rounds.{removed, taken_from}
 use Rattle.engine_meaning.specs.States.{State, settled_state, taken_of}
 use Rattle.engine_meaning.proofs.Settling.{settled-quiet}
 use Rattle.remove_rounds.proofs.Rounds.{few_elements, no_rows, some_rows, some_taken, ended, rested, ended_taken, fewer, settled_later, taken_later}
-use Rattle.remove_rounds.specs.Costs.{questions, single_tests, settling_cost}
+use Rattle.remove_rounds.specs.Costs.{questions, single_tests}
 use Rattle.remove_rounds.proofs.Spending.{goes_on, questions_within, round_questions, round_singles, singles_within}
 use Rattle.remove_rounds.proofs.settle.Goals as goal
 

@@ -1,4 +1,4 @@
-use Rattle.std.proofs.Common.{◌≡◌, ◌+◌, ◌≤◌, ℕ, List, arith, ap, length}
+use Rattle.std.proofs.Common.{arith, ap, length}
 use Rattle.list_reader.proofs.Lists.{few_lines}
 use Rattle.cosmetic_top.proofs.drill.count_lines.Goals as goal
 

@@ -1,4 +1,4 @@
-use Rattle.std.proofs.Common.{◌≡◌, ◌+◌, ◌≤◌, ◌∷◌, ◌∙◌, List, [], ℕ, Ok, Err, arith, ap, refl, subst, sym}
+use Rattle.std.proofs.Common.{◌∷◌, ◌∙◌, List, [], ℕ, Ok, Err, arith, ap, subst, sym}
 use Rattle.std.proofs.lemmas.Result.{err_from_is_err_and}
 use Rattle.cos_outside.specs.Writes.{WritesTexts}
 use Rattle.cos_outside.proofs.Writing.{text_alone}

@@ -1,4 +1,4 @@
-use Rattle.std.proofs.Common.{◌≡◌, ◌∙◌, ◌+◌, ◌≤◌, List, ℕ, ap, ap₂, subst}
+use Rattle.std.proofs.Common.{◌∙◌, ◌+◌, ◌≤◌, List, ℕ, ap, ap₂, subst}
 use Rattle.selector_tree.specs.declared.filter.Filter.{Filter}
 use Rattle.address_patterns.specs.declared.page.Page.{Page}
 use Rattle.hostname_buckets.specs.Active.{active_among, entries_of}

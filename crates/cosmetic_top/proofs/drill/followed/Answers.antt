@@ -1,4 +1,4 @@
-use Rattle.std.proofs.Common.{◌≡◌, ◌∙◌, ◌+◌, ◌≤◌, List, ℕ, ap, length, arith, subst}
+use Rattle.std.proofs.Common.{◌∙◌, ◌+◌, ◌≤◌, List, ℕ, ap, length, arith, subst}
 use Rattle.cos_source.specs.Lines.{lines_of, numbered}
 use Rattle.remove_rounds.specs.Costs.{questions, single_tests}
 use Rattle.page_steps.specs.Costs.{script_cost}

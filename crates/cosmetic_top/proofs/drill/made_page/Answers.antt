@@ -1,4 +1,4 @@
-use Rattle.std.proofs.Common.{◌≡◌, ◌∙◌, List, ℕ, ap, subst}
+use Rattle.std.proofs.Common.{◌∙◌, List, ℕ, ap, subst}
 use Rattle.cos_source.specs.Mark.{without_mark}
 use Rattle.command_inputs.specs.Inputs.{tree_of_source}
 use Rattle.command_inputs.specs.Reads.{IsDue}

@@ -1,4 +1,4 @@
-use Rattle.std.proofs.Common.{◌≡◌, ◌+◌, ◌≤◌, arith, subst, sym}
+use Rattle.std.proofs.Common.{◌+◌, ◌≤◌, arith, subst, sym}
 use Rattle.command_words.specs.declared.command.Command.{Command}
 use Rattle.remove_rounds.specs.Costs.{questions, single_tests}
 use Rattle.cosmetic_top.specs.Costs.{command_cost}

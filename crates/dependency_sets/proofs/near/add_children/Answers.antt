@@ -1,6 +1,6 @@
-use Rattle.std.proofs.Common.{◌≡◌, true, sym, ap, ◌∙◌, subst}
+use Rattle.std.proofs.Common.{true, sym, ◌∙◌}
 use Rattle.selector_match.proofs.SiblingLaws.{forth_falls}
-use Rattle.dependency_sets.proofs.Nearby.{Walks, walks_start, walks_here, walks_past, walks_end}
+use Rattle.dependency_sets.proofs.Nearby.{walks_start, walks_here, walks_past, walks_end}
 use Rattle.dependency_sets.proofs.near.add_children.Goals as goal
 use Rattle.dependency_sets.proofs.near.add_children.Goals.{then-is_element+in_ok-add, else-is_element}
 

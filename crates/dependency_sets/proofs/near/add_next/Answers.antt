@@ -1,5 +1,5 @@
-use Rattle.std.proofs.Common.{◌≡◌, ap, sym, ◌∙◌}
-use Rattle.dependency_sets.specs.Reaching.{Adds, leads_to}
+use Rattle.std.proofs.Common.{ap, ◌∙◌}
+use Rattle.dependency_sets.specs.Reaching.{leads_to}
 use Rattle.page_tree.specs.Directions.{to_next}
 use Rattle.dependency_sets.proofs.Members.{on_ok, adds_one, adds_none}
 use Rattle.dependency_sets.proofs.Nearby.{element_place, next_some, next_none, next_document}

@@ -1,8 +1,8 @@
 use Rattle.std.proofs.Common.{ap, ◌∙◌}
 use Rattle.dependency_sets.specs.Reaching.{leads_to}
 use Rattle.page_tree.specs.Directions.{to_previous}
-use Rattle.dependency_sets.proofs.Members.{on_ok, adds_one, adds_none}
-use Rattle.dependency_sets.proofs.Nearby.{element_place, previous_some, previous_none, before_document}
+use Rattle.dependency_sets.proofs.Members.{adds_none}
+use Rattle.dependency_sets.proofs.Nearby.{previous_none, before_document}
 use Rattle.dependency_sets.proofs.near.add_previous.Goals as goal
 
 pub returns-then-y-eq0 : goal.returns-then-y-eq0

@@ -1,5 +1,4 @@
-use Rattle.std.proofs.Common.{◌≡◌, ℕ, drop}
-use Rattle.page_tree.specs.Directions.{is_in}
+use Rattle.std.proofs.Common.{drop}
 use Rattle.sensor_meaning.specs.Dirty.{spread}
 use Rattle.dependency_sets.specs.Reaching.{ArePlaces, HasSame}
 use Rattle.dependency_sets.proofs.steps.follow.Given as goal

@@ -1,4 +1,4 @@
-use Rattle.std.proofs.Common.{◌≡◌, ℕ, not, ◌==◌, ◌&&◌, take}
+use Rattle.std.proofs.Common.{not, ◌==◌, ◌&&◌, take}
 use Rattle.page_tree.specs.Directions.{is_in}
 use Rattle.dependency_sets.specs.Reaching.{Gains}
 use Rattle.dependency_sets.proofs.touching.add_elements.Given as goal

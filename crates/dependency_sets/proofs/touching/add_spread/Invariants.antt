@@ -1,4 +1,4 @@
-use Rattle.std.proofs.Common.{◌≡◌, ℕ, ◌&&◌, ◌||◌, take}
+use Rattle.std.proofs.Common.{◌&&◌, take}
 use Rattle.page_tree.specs.Directions.{is_in}
 use Rattle.page_tree.specs.Standings.{all}
 use Rattle.sensor_meaning.specs.Dirty.{is_reached}

@@ -1,4 +1,4 @@
-use Rattle.std.proofs.Common.{ltb, leb, drop, subst, sym, rules}
+use Rattle.std.proofs.Common.{ltb, leb, subst, sym, rules}
 use Rattle.std.specs.List.Sorted.{IsNonDecreasingBy}
 use Rattle.std.proofs.lemmas.List.Sorted.{IsPartitionPoint-from_clause, IsPartitionedBy-leb, IsPartitionedBy-ltb, IsNonDecreasingBy-drop}
 use Rattle.generic_tables.specs.declared.filters.Entry.{Entry}

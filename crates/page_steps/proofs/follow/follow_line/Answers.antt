@@ -1,4 +1,4 @@
-use Rattle.std.proofs.Common.{◌≡◌, ◌≤◌, ◌+◌, IfOk, [], ap, length, arith, subst, sym, ◌∙◌}
+use Rattle.std.proofs.Common.{◌≡◌, ◌≤◌, ◌+◌, IfOk, ap, length, arith, subst, sym, ◌∙◌}
 use Rattle.cos_patterns.specs.Found.{pattern_found}
 use Rattle.mutation_script.specs.declared.mutation.ScriptLine.{ScriptLine}
 use Rattle.mutation_script.specs.Changes.{answer}

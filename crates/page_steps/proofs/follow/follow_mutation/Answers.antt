@@ -1,4 +1,4 @@
-use Rattle.std.proofs.Common.{◌+◌, ◌≤◌, ◌∙◌, ap, arith, sym}
+use Rattle.std.proofs.Common.{◌∙◌, ap, arith, sym}
 use Rattle.cos_patterns.specs.Found.{pattern_found}
 use Rattle.mutation_script.specs.Changes.{answer_by, change}
 use Rattle.engine_meaning.specs.States.{hidden_of}

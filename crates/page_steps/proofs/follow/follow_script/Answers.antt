@@ -1,4 +1,4 @@
-use Rattle.std.proofs.Common.{◌+◌, ◌≤◌, List, length, refl, ap, arith, sym, ◌∙◌, zero-add}
+use Rattle.std.proofs.Common.{◌+◌, List, length, refl, ap, arith, sym, ◌∙◌, zero-add}
 use Rattle.selector_tree.specs.declared.filter.Taken.{Taken}
 use Rattle.mutation_script.specs.Lines.{script_line}
 use Rattle.command_meaning.specs.Report.{after_line, drilled_by, settling}

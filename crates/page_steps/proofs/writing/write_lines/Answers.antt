@@ -1,4 +1,4 @@
-use Rattle.std.proofs.Common.{ℕ, ◌+◌, ◌≤◌, List, length, arith, sym, subst, ap}
+use Rattle.std.proofs.Common.{ℕ, List, length, arith, sym, subst, ap}
 use Rattle.std.proofs.lemmas.Result.{err_from_is_err_and}
 use Rattle.cos_source.specs.Lines.{lines_of, numbered}
 use Rattle.command_meaning.specs.Report.{lines_texts}

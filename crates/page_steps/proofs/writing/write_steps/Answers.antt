@@ -1,4 +1,4 @@
-use Rattle.std.proofs.Common.{ℕ, ◌+◌, ◌≤◌, [], ◌∷◌, ◌++◌, Ok, Err, length, arith, refl, subst}
+use Rattle.std.proofs.Common.{ℕ, ◌+◌, [], ◌∷◌, ◌++◌, Ok, Err, length, arith, refl, subst}
 use Rattle.std.proofs.lemmas.Result.{err_from_is_err_and}
 use Rattle.cos_outside.proofs.Writing.{and_more, error_before, no_memory, text_alone}
 use Rattle.cos_source.specs.Lines.{lines_of, numbered}
