@@ -120,7 +120,7 @@ pub(crate) fn all_selected<L: Ledger, P: Ledger>(
 
 // The elements from 1 to the last that the only filter selects.
 fn selected_to<L: Ledger, P: Ledger>(
-    context: &MatchingContext<'_>,
+    context: &MatchingContext<'_, '_>,
     active: &Active,
     last: u32,
     members: &mut Members,
