@@ -1,4 +1,6 @@
 pub mod Fronts
-pub mod Splits
 pub mod Letters
+pub mod Lexemes
+pub mod Runs
+pub mod Scans
 pub mod Stops

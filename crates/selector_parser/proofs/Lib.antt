@@ -1,7 +1,3 @@
-pub mod Args
-pub mod Layers
-pub mod Places
+pub mod Claims
 pub mod Puts
 pub mod Readings
-pub mod Stages
-pub mod Walk
