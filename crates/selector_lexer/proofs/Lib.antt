@@ -1,9 +1,11 @@
-pub mod Arguments
-pub mod Stages
+pub mod Lists
+pub mod Escapes
+pub mod Closing
+pub mod CutLaws
+pub mod Firsts
+pub mod Hexes
+pub mod Characters
+pub mod LetterLaws
 pub mod Boundaries
 pub mod Classes
-pub mod FirstLetters
 pub mod Limits
-pub mod Lists
-pub mod Runs
-pub mod Steps

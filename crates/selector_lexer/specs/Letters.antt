@@ -1,28 +1,40 @@
--- What stands at the front of a text, as letters.
-use Rattle.std.specs.Prelude.{◌≡◌, ℕ, ◌≤◌, ◌<◌, Bool, not, List, [], ◌∷◌, ◌++◌, length, take, drop, slice_index, if◌then◌else◌}
-use Rattle.cos_source.specs.Spaces.{is_space}
-use Rattle.selector_spelling.specs.Bytes.{Bytes, backslash}
-use Rattle.selector_spelling.specs.Letters.{Letter, plain, escape, lone, letters, source_of}
-use Rattle.selector_spelling.specs.Reads.{Reads}
+-- What stands at the front of a text as a letter of a name or a string.
+use Rattle.std.specs.Prelude.{◌≡◌, ℕ, ◌≤◌, Bool, ◌∷◌, ◌++◌, drop, encode_utf8, Some, None}
+use Rattle.std.specs.List.{AllByRecursion}
+use Rattle.selector_tree.specs.Letters.{is_name_byte}
+use Rattle.selector_spelling.specs.Bytes.{Bytes}
+use Rattle.selector_spelling.specs.Names.{Letter, escape, letter, is_plain}
+use Rattle.selector_lexer.specs.declared.names.Plain.{Plain}
+use Rattle.selector_lexer.specs.declared.names.Plain.TheVariants.{InName, InString}
 
--- the first byte of a letter, as far as a scan goes by it
-abbrev pub byte_of : Letter → ℕ
-byte_of (plain b) = b
-byte_of (escape source value) = backslash
-byte_of lone = backslash
+-- which bytes stand for themselves
+abbrev pub stands : Plain → ℕ → Bool
+stands InName = is_name_byte
+stands InString = is_plain
 
--- the first letter of a text takes so many bytes
-pub record IsFirst (text : Bytes) (n : ℕ) : Type 0 where
-  pub letter : Letter
-  pub rest : Bytes
-  pub whole : text ≡ source_of letter ++ rest
-  pub count : length (source_of letter) ≡ n
-  pub reads : Reads (source_of letter) (letter ∷ []) rest
-  pub byte : byte_of letter ≡ slice_index text 0
-  pub some : 1 ≤ n
-  pub last : letter ≡ lone → rest ≡ []
+-- A character is what an escape stands for, from behind its `\` on. Of a character past ASCII, `escape` gives the first
+-- byte, and its tail stands for itself.
+pub record IsEscape (text rest : Bytes) (c : ℕ) : Type 0 where
+  pub first : Letter
+  pub tail : Bytes
+  pub is : escape text ≡ Some first
+  pub value : first.value ++ tail ≡ encode_utf8 c
+  pub rest_is : drop first.length text ≡ tail ++ rest
+  pub high : AllByRecursion (λ b. 128 ≤ b) tail
 
--- one white space at the front, if it stands there
-abbrev pub one_space : Bytes → Bytes
-one_space [] = []
-one_space (b ∷ text) = if is_space b then b ∷ [] else []
+-- a character is what the letter at the front of a text stands for
+pub record IsLetter (p : ℕ → Bool) (text rest : Bytes) (c : ℕ) : Type 0 where
+  pub byte : ℕ
+  pub more : Bytes
+  pub from : text ≡ byte ∷ more
+  pub first : Letter
+  pub tail : Bytes
+  pub is : letter p byte more ≡ Some first
+  pub value : first.value ++ tail ≡ encode_utf8 c
+  pub some : 1 ≤ first.length
+  pub rest_is : drop first.length text ≡ tail ++ rest
+  pub high : AllByRecursion (λ b. 128 ≤ b) tail
+
+-- no letter stands at the front of a text
+abbrev pub HasNoLetter : (ℕ → Bool) → Bytes → Type 0
+HasNoLetter p text = (b : ℕ) (more : Bytes) → text ≡ b ∷ more → letter p b more ≡ None

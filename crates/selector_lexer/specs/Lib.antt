@@ -1,6 +1,4 @@
 pub mod Fronts
+pub mod Splits
 pub mod Letters
-pub mod Lexemes
-pub mod Runs
-pub mod Scans
 pub mod Stops

@@ -101,7 +101,7 @@ pub fn is_blank(text: &[u8]) -> bool
 }
 
 /// How many bytes stand before the first of these.
-pub(crate) fn length_before(byte: u8, bytes: &[u8]) -> usize
+fn length_before(byte: u8, bytes: &[u8]) -> usize
     ensures most { result ≤ length bytes.now }
     ensures front { front (differs byte) bytes.now ≡ take result bytes.now }
     ensures behind { behind (differs byte) bytes.now ≡ drop result bytes.now }

@@ -15,14 +15,13 @@ pub fn is_number(text: &[u8]) -> bool
     !text.is_empty() && front_length(Class::Digit, text) == text.len()
 }
 
-/// The number that digits spell to a base, up to a limit.
-pub(crate) fn limited(base: u32, limit: u32, digits: &[u8]) -> Option<u32>
-    requires { 1 ≤ base }
-    ensures { result ≡ (if nat_le (number base digits.now) limit then Some (number base digits.now) else None) }
+/// The number that digits spell, up to a limit.
+fn limited(limit: u32, digits: &[u8]) -> Option<u32>
+    ensures { result ≡ (if nat_le (number 10 digits.now) limit then Some (number 10 digits.now) else None) }
 {
     let mut number: u64 = 0;
     for digit in digits {
-        number = u64::from(base) * number + u64::from(digit_value(*digit));
+        number = 10 * number + u64::from(digit_value(*digit));
         if number > u64::from(limit) {
             return None;
         }
@@ -37,14 +36,14 @@ pub fn text_units(argument: &[u8]) -> Option<u32>
     if !is_number(argument) || argument.len() > 10 {
         return None;
     }
-    limited(10, u32::MAX, argument)
+    limited(u32::MAX, argument)
 }
 
 /// The number of `:upward(..)`.
 pub fn degree(digits: &[u8]) -> Option<u8>
     ensures { result ≡ degree digits.now }
 {
-    let number = limited(10, 255, digits)?;
+    let number = limited(255, digits)?;
     if number == 0 {
         return None;
     }
@@ -58,7 +57,7 @@ fn digits(text: &[u8]) -> Option<u32>
     if !is_number(text) {
         return None;
     }
-    limited(10, 1_000_000, text)
+    limited(1_000_000, text)
 }
 
 fn digits_or_one(text: &[u8]) -> Option<u32>

@@ -2,12 +2,8 @@ ghost use Rattle.std.specs.Prelude.{◌≡◌};
 ghost use Rattle.std.specs.List.{list_any};
 ghost use Rattle.std.specs.Str.{bytes_eq, str_to_ascii_lowercase};
 ghost use Rattle.selector_spelling.specs.Operators.{standard_of, procedural_of, aside_of, operator_of};
-ghost use Rattle.selector_spelling.specs.Letters.{letters};
-ghost use Rattle.selector_spelling.specs.Scan.{opened_by, opened, is_number_argument, begins_selector};
-ghost use Rattle.selector_lexer.specs.Scans.{lent};
 
-use crate::fronts::{Class, begins_with, front_length, without_first_spaces};
-use selector_spelling::{Kind, Open, Operator};
+use selector_spelling::{Kind, Operator};
 
 /// Whether a name is this word, letter case aside.
 pub fn is(name: &[u8], word: &[u8]) -> bool
@@ -126,51 +122,4 @@ pub fn operator_of(name: &[u8]) -> Option<Operator>
         return Some(operator);
     }
     Some(Operator::Aside(aside_of(name)?))
-}
-
-/// What the bracket of `:name(..)` opens.
-fn opened_by(operator: Option<Operator>) -> Open
-    ensures { result ≡ opened_by operator }
-{
-    match operator {
-        None | Some(Operator::Nth { .. }) | Some(Operator::Aside(Kind::State)) => Open::Round,
-        Some(Operator::Is)
-        | Some(Operator::Not)
-        | Some(Operator::Has)
-        | Some(Operator::Upward) => Open::Selector,
-        Some(_) => Open::Raw,
-    }
-}
-
-/// What a `(` opens, by the name of a `:` before it.
-pub(crate) fn opened(name: Option<&[u8]>) -> Open
-    ensures { result ≡ opened (lent name.entry) }
-{
-    match name {
-        None => Open::Round,
-        Some(name) => opened_by(operator_of(name)),
-    }
-}
-
-/// Whether digits stand up to the closing bracket, with white space around them.
-fn is_number_argument(argument: &[u8]) -> bool
-    ensures { result ≡ is_number_argument (letters argument.now) }
-{
-    let digits = without_first_spaces(argument);
-    let count = front_length(Class::Digit, digits);
-    count > 0 && begins_with(b')', without_first_spaces(&digits[count..]))
-}
-
-/// Whether the argument behind a `(` is a selector, by the name of a `:` before that.
-pub(crate) fn begins_selector(name: Option<&[u8]>, argument: &[u8]) -> bool
-    ensures { result ≡ begins_selector (lent name.entry) (letters argument.now) }
-{
-    let Some(name) = name else {
-        return false;
-    };
-    match operator_of(name) {
-        Some(Operator::Is) | Some(Operator::Not) | Some(Operator::Has) => true,
-        Some(Operator::Upward) => !is_number_argument(argument),
-        None | Some(_) => false,
-    }
 }

@@ -1,3 +1,7 @@
-pub mod Claims
+pub mod Args
+pub mod Layers
+pub mod Places
 pub mod Puts
 pub mod Readings
+pub mod Stages
+pub mod Walk

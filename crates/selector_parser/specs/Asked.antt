@@ -1,7 +1,6 @@
 -- Which patterns a maker is asked for as a text is read.
-use Rattle.std.specs.Prelude.{◌≡◌, true, false, List, [], ◌∷◌, Result, Ok, Err, IsTrue, if◌then◌else◌}
+use Rattle.std.specs.Prelude.{◌≡◌, false, List, [], ◌∷◌, Result, Ok, Err, IsTrue, if◌then◌else◌}
 use Rattle.std.specs.Bool.{MatchBool}
-use Rattle.std.specs.List.{AllByRecursion}
 use Rattle.cos_patterns.specs.declared.written.Asked.{Asked}
 use Rattle.cos_patterns.specs.declared.written.Asked.TheVariants.{Pattern}
 use Rattle.cos_patterns.specs.declared.written.Written.{Written}
@@ -21,10 +20,6 @@ asks_of (Err finding) = []
 -- the patterns of a text, in text order; none where the text has a finding before them
 abbrev pub patterns_of : Bytes → List Ask
 patterns_of text = asks_of (spelled text)
-
--- all of some patterns stand in a table
-abbrev pub AreIn : Noted → List Ask → Type 0
-AreIn table asks = AllByRecursion (λ ask. is_in (written ask.body ask.flags) table.patterns ≡ true) asks
 
 -- `asks` is what one call does to a maker
 module _ {Maker : Type 0} (asks : Maker → Asked → Maker → Type 0) where

@@ -1,13 +1,13 @@
 // The patterns of a text, put into a table in text order.
 ghost use Rattle.std.specs.Prelude.{◌≡◌, ◌+◌, ◌<◌, nat_lt, length, Option, None, true, IfOk, OnOk};
-ghost use Rattle.std.specs.List.{AllByRecursion};
+ghost use Rattle.std.specs.List.{All};
 ghost use Rattle.std.specs.Option.{is_none, option_or};
 ghost use Rattle.cos_patterns.specs.Tables.{Agrees, Extends};
 ghost use Rattle.cos_patterns.specs.Written.{written, is_in};
 ghost use Rattle.selector_spelling.specs.declared.finding.Finding.{Finding};
 ghost use Rattle.selector_spelling.specs.Texts.{by_answer, first_refused};
 ghost use Rattle.selector_parser.specs.Answers.{answer_by};
-ghost use Rattle.selector_parser.specs.Asked.{AreIn, Puts, PutsEach};
+ghost use Rattle.selector_parser.specs.Asked.{Puts, PutsEach};
 ghost use Rattle.selector_parser.specs.Lasting.{Lasts};
 
 use cos_patterns::{Maker, PatternError, PatternTable};
@@ -20,20 +20,19 @@ pub(crate) fn put_asks<M: Maker>(
     maker: &mut M,
     asks: &[Ask],
 ) -> Result<Option<Finding>, AllocError>
-    requires flags { AllByRecursion (λ ask. ask.flags < 8) asks.now }
+    requires flags { All (λ ask. ask.flags < 8) asks.now }
     requires agrees { Agrees table.old (M.large maker.old) (M.unread maker.old) }
     ensures agrees { Agrees table.new (M.large maker.new) (M.unread maker.new) }
     ensures extends { Extends table.old table.new }
     ensures answer { IfOk result (λ refusal. Lasts table.new (λ large unread. refusal ≡ first_refused (answer_by large unread) asks.now)) }
-    ensures held { IfOk result (λ refusal. refusal ≡ None → AreIn table.new asks.now) }
+    ensures held { IfOk result (λ refusal. refusal ≡ None →
+        All (λ ask. is_in (written ask.body ask.flags) table.new.patterns ≡ true) asks.now) }
     ensures asked { OnOk result (PutsEach M.asks asks.now table.old maker.old table.new maker.new) }
 {
-    let mut left = asks;
-    while let Some((ask, others)) = left.split_first() {
+    for ask in asks {
         if let Some(refusal) = put_ask(table, maker, ask)? {
             return Ok(Some(refusal));
         }
-        left = others;
     }
     Ok(None)
 }

@@ -3,8 +3,8 @@
 //!
 //! `spelling_reader` reads a text up to its patterns. Here they are put, in text order, and the selector gets their numbers.
 //! `specs/Readings.antt` says what a text is read as under what a maker refused, `Numbered.antt` which numbers a selector gets,
-//! and `Lasting.antt` what stays true as the table grows. `proofs/Claims.antt` has claims that hold of each step that is read,
-//! `Readings.antt` what follows for a whole text, and `Puts.antt` laws on puts of patterns.
+//! and `Lasting.antt` what stays true as the table grows. `proofs/Readings.antt` has laws on what is read, `Puts.antt` on puts of
+//! patterns, and `Stages.antt` ties `spelling_reader` to whole readings.
 #![tactic(auto)]
 
 mod asks;

@@ -1,55 +1,48 @@
-// Numbers given to the patterns of a selector. Its texts move, and none is copied.
-ghost use Rattle.std.specs.Prelude.{◌≡◌, IfOk, map};
-ghost use Rattle.selector_tree.specs.Unnumbered.{unnumbered, unnumbered_arg, unnumbered_step, unnumbered_test};
+// Selectors with the numbers that their patterns have in a table.
+ghost use Rattle.std.specs.Prelude.{◌≡◌, IfOk, map, option_map};
 ghost use Rattle.selector_parser.specs.Numbered.{number_in, numbered, numbered_arg, numbered_step, numbered_test};
 
 use cos_patterns::PatternTable;
 use listed::Listed;
-use selector_tree::{Arg, Chain, Selector, Step, Test};
+use selector_tree::{Arg, Chain, Names, Selector, Step, Test};
 use sqlite_items::Boxed;
 use std::alloc::{AllocError, Global};
 
-// A selector with the numbers of its patterns in a table.
+// A copy of a selector with the numbers of its patterns in a table.
 #[cycle(number)]
 pub(crate) fn numbered(
     alloc: Global,
     table: &PatternTable,
-    selector: Selector,
+    selector: &Selector,
 ) -> Result<Selector, AllocError>
-    ensures made { IfOk result (λ made. made ≡ numbered table.now.patterns selector) }
-    ensures once { IfOk result (λ made. numbered table.now.patterns made ≡ made) }
-    ensures bare { IfOk result (λ made. unnumbered made ≡ unnumbered selector) }
+    ensures { IfOk result (λ copy. copy ≡ numbered table.now.patterns selector.now) }
 {
     let mut chains = Listed::new(alloc);
-    for chain in selector.into_vec() {
+    for chain in selector.as_slice() {
         chains.push(numbered_chain(alloc, table, chain)?)?;
     }
     Ok(chains)
 }
 
 #[cycle(number)]
-fn numbered_chain(alloc: Global, table: &PatternTable, chain: Chain) -> Result<Chain, AllocError>
-    ensures made { IfOk result (λ made. made ≡ map (numbered_step table.now.patterns) chain) }
-    ensures once { IfOk result (λ made. map (numbered_step table.now.patterns) made ≡ made) }
-    ensures bare { IfOk result (λ made. map unnumbered_step made ≡ map unnumbered_step chain) }
+fn numbered_chain(alloc: Global, table: &PatternTable, chain: &Chain) -> Result<Chain, AllocError>
+    ensures { IfOk result (λ copy. copy ≡ map (numbered_step table.now.patterns) chain.now) }
 {
     let mut steps = Listed::new(alloc);
-    for step in chain.into_vec() {
+    for step in chain.as_slice() {
         steps.push(numbered_step(alloc, table, step)?)?;
     }
     Ok(steps)
 }
 
 #[cycle(number)]
-fn numbered_step(alloc: Global, table: &PatternTable, step: Step) -> Result<Step, AllocError>
-    ensures made { IfOk result (λ made. made ≡ numbered_step table.now.patterns step) }
-    ensures once { IfOk result (λ made. numbered_step table.now.patterns made ≡ made) }
-    ensures bare { IfOk result (λ made. unnumbered_step made ≡ unnumbered_step step) }
+fn numbered_step(alloc: Global, table: &PatternTable, step: &Step) -> Result<Step, AllocError>
+    ensures { IfOk result (λ copy. copy ≡ numbered_step table.now.patterns step.now) }
 {
     Ok(match step {
         Step::Keep(test) => Step::Keep(numbered_test(alloc, table, test)?),
-        Step::Move(place) => Step::Move(place),
-        Step::Upward(degree) => Step::Upward(degree),
+        Step::Move(place) => Step::Move(*place),
+        Step::Upward(degree) => Step::Upward(*degree),
         Step::UpwardTo(selector) => Step::UpwardTo(numbered_boxed(alloc, table, selector)?),
         Step::Others => Step::Others,
     })
@@ -59,51 +52,75 @@ fn numbered_step(alloc: Global, table: &PatternTable, step: Step) -> Result<Step
 fn numbered_boxed(
     alloc: Global,
     table: &PatternTable,
-    selector: Boxed<Selector>,
+    selector: &Boxed<Selector>,
 ) -> Result<Boxed<Selector>, AllocError>
-    ensures made { IfOk result (λ made. made ≡ numbered table.now.patterns selector) }
-    ensures once { IfOk result (λ made. numbered table.now.patterns made ≡ made) }
-    ensures bare { IfOk result (λ made. unnumbered made ≡ unnumbered selector) }
+    ensures { IfOk result (λ copy. copy ≡ numbered table.now.patterns selector.now) }
 {
-    Boxed::new(alloc, numbered(alloc, table, selector.into_inner())?)
+    Boxed::new(alloc, numbered(alloc, table, selector.get())?)
 }
 
 #[cycle(number)]
-fn numbered_test(alloc: Global, table: &PatternTable, test: Test) -> Result<Test, AllocError>
-    ensures made { IfOk result (λ made. made ≡ numbered_test table.now.patterns test) }
-    ensures once { IfOk result (λ made. numbered_test table.now.patterns made ≡ made) }
-    ensures bare { IfOk result (λ made. unnumbered_test made ≡ unnumbered_test test) }
+fn numbered_test(alloc: Global, table: &PatternTable, test: &Test) -> Result<Test, AllocError>
+    ensures { IfOk result (λ copy. copy ≡ numbered_test table.now.patterns test.now) }
 {
     Ok(match test {
+        Test::Any => Test::Any,
+        Test::Tag(name) => Test::Tag(name.copy(alloc)?),
+        Test::Id(id) => Test::Id(id.copy(alloc)?),
+        Test::Class(class) => Test::Class(class.copy(alloc)?),
+        Test::Attr {
+            name,
+            op,
+            value,
+            ignore_case,
+        } => Test::Attr {
+            name: name.copy(alloc)?,
+            op: *op,
+            value: value.copy(alloc)?,
+            ignore_case: *ignore_case,
+        },
+        Test::Root => Test::Root,
+        Test::Empty => Test::Empty,
+        Test::Nth {
+            a,
+            b,
+            from_end,
+            of_name,
+        } => Test::Nth {
+            a: *a,
+            b: *b,
+            from_end: *from_end,
+            of_name: *of_name,
+        },
+        Test::Only { of_name } => Test::Only { of_name: *of_name },
         Test::Is(selector) => Test::Is(numbered_boxed(alloc, table, selector)?),
         Test::Not(selector) => Test::Not(numbered_boxed(alloc, table, selector)?),
         Test::Has(selector) => Test::Has(numbered_boxed(alloc, table, selector)?),
-        Test::HasText(arg) => Test::HasText(numbered_arg(table, arg)),
-        Test::MatchesPath(arg) => Test::MatchesPath(numbered_arg(table, arg)),
+        Test::HasText(arg) => Test::HasText(numbered_arg(alloc, table, arg)?),
+        Test::MinText(units) => Test::MinText(*units),
+        Test::MatchesPath(arg) => Test::MatchesPath(numbered_arg(alloc, table, arg)?),
         Test::MatchesAttr { name, value } => Test::MatchesAttr {
-            name: numbered_arg(table, name),
+            name: numbered_arg(alloc, table, name)?,
             value: match value {
                 None => None,
-                Some(arg) => Some(numbered_arg(table, arg)),
+                Some(arg) => Some(numbered_arg(alloc, table, arg)?),
             },
         },
-        test => test,
+        Test::WatchAttr(names) => Test::WatchAttr(copy_names(alloc, names)?),
     })
 }
 
-fn numbered_arg(table: &PatternTable, arg: Arg) -> Arg
-    ensures made { result ≡ numbered_arg table.now.patterns arg }
-    ensures once { numbered_arg table.now.patterns result ≡ result }
-    ensures bare { unnumbered_arg result ≡ unnumbered_arg arg }
+fn numbered_arg(alloc: Global, table: &PatternTable, arg: &Arg) -> Result<Arg, AllocError>
+    ensures { IfOk result (λ copy. copy ≡ numbered_arg table.now.patterns arg.now) }
 {
-    match arg {
-        Arg::Literal(text) => Arg::Literal(text),
+    Ok(match arg {
+        Arg::Literal(text) => Arg::Literal(text.copy(alloc)?),
         Arg::Pattern { body, flags, .. } => Arg::Pattern {
-            number: number_in(table, body.as_str(), flags),
-            body,
-            flags,
+            number: number_in(table, body.as_str(), *flags),
+            body: body.copy(alloc)?,
+            flags: *flags,
         },
-    }
+    })
 }
 
 // The number of a pattern; 0 where the table doesn't hold it.
@@ -115,4 +132,14 @@ fn number_in(table: &PatternTable, body: &str, flags: u8) -> u32
     } else {
         0
     }
+}
+
+fn copy_names(alloc: Global, names: &Names) -> Result<Names, AllocError>
+    ensures { IfOk result (λ copy. copy ≡ names.now) }
+{
+    let mut all = Listed::new(alloc);
+    for name in names.as_slice() {
+        all.push(name.copy(alloc)?)?;
+    }
+    Ok(all)
 }

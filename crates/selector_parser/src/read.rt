@@ -1,6 +1,5 @@
 ghost use Rattle.std.specs.Prelude.{◌≡◌, [], length, Err, IfOk, OnOk};
 ghost use Rattle.cos_patterns.specs.Tables.{Agrees, Extends};
-ghost use Rattle.selector_tree.specs.Unnumbered.{unnumbered};
 ghost use Rattle.selector_spelling.specs.Texts.{action_of};
 ghost use Rattle.selector_parser.specs.Asked.{patterns_of, PutsEach};
 ghost use Rattle.selector_parser.specs.Lasting.{Lasts};
@@ -61,17 +60,15 @@ pub fn read_selector<M: Maker>(
     }
 }
 
-// The chains with the numbers of their patterns. Those without a pattern stay as they are.
+// The chains with the numbers of their patterns. Those without a pattern aren't copied.
 fn with_numbers(alloc: Global, table: &PatternTable, read: Chains) -> Result<Selector, AllocError>
     requires { read.notes.asks ≡ [] → numbered table.now.patterns read.chains ≡ read.chains }
-    ensures made { IfOk result (λ selector. selector ≡ numbered table.now.patterns read.chains) }
-    ensures once { IfOk result (λ selector. numbered table.now.patterns selector ≡ selector) }
-    ensures bare { IfOk result (λ selector. unnumbered selector ≡ unnumbered read.chains) }
+    ensures { IfOk result (λ selector. selector ≡ numbered table.now.patterns read.chains) }
 {
     if read.notes.asks.len() == 0 {
         return Ok(read.chains);
     }
-    numbered(alloc, table, read.chains)
+    numbered(alloc, table, &read.chains)
 }
 
 // The answer for a text that is no selector.

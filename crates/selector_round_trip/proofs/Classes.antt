@@ -1,8 +1,7 @@
 -- Classes of bytes: what a test says of each byte, by computing below 128.
-use Rattle.std.proofs.Common.{◌≡◌, ℕ, ◌<◌, ◌≤◌, Bool, true, false, not, eqb, leb, ◌&&◌, ◌||◌, List, [], ◌∷◌, refl, sym, ap, ◌∙◌, arith, inl, inr}
+use Rattle.std.proofs.Common.{◌≡◌, ℕ, ◌<◌, ◌≤◌, Bool, true, false, not, eqb, leb, ◌||◌, refl, sym, ap, ◌∙◌, arith, inl, inr}
 use Rattle.std.specs.Char.{is_ascii_hexdigit}
-use Rattle.std.specs.List.{list_all}
-use Rattle.std.proofs.lemmas.Bool.{agree_below, cases_lt, cases_Bool, or_right, or_cases, le-leb, eqb-true, leb-true, and_parts, and_from, agree_below_at, both_ways, not-true}
+use Rattle.std.proofs.lemmas.Bool.{agree_below, cases_lt, cases_Bool, or_right, or_cases, le-leb, eqb-true, leb-true, and_parts, agree_below_at, both_ways, not-true}
 use Rattle.selector_tree.specs.Letters.{is_within, is_digit, is_name_byte, is_control}
 
 -- what a test says of each byte below 128
@@ -40,8 +39,3 @@ control_low b h =
 
 pub digit_low : (b : ℕ) → is_digit b ≡ true → b < 128
 digit_low b h = (let p = and_parts (leb 48 b) (leb b 57) h in let e = leb-true b 57 p.1 in omega arith)
-
--- each that passes one test passes another
-pub all_within : {A : Type 0} (p q : A → Bool) (xs : List A) → ((x : A) → p x ≡ true → q x ≡ true) → list_all p xs ≡ true → list_all q xs ≡ true
-all_within p q [] within h = refl
-all_within p q (x ∷ xs) within h = (let r = and_parts (p x) (list_all p xs) h in and_from (q x) (list_all q xs) (within x r.0) (all_within p q xs within r.1))

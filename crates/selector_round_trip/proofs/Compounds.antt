@@ -1,159 +1,165 @@
 -- What is read as a compound is read again from its canonical text.
-use Rattle.std.proofs.Common.{◌≡◌, ℕ, ◌+◌, Bool, true, false, eqb, if◌then◌else◌, ◌&&◌, ◌||◌, List, [], ◌∷◌, ◌++◌, length, Result, Ok, Err, refl, sym, ap, ap₂, subst, ◌∙◌, append-nil, arith, inl, inr}
+use Rattle.std.proofs.Common.{◌≡◌, ℕ, zero, suc, ◌+◌, ◌-◌, Bool, true, false, eqb, ◌&&◌, ◌||◌, [], ◌∷◌, ◌++◌, length, drop, Result, Ok, Err, refl, sym, ap, subst, ◌∙◌, append-nil, arith, inl, inr}
 use Rattle.std.specs.List.{list_all}
+use Rattle.std.proofs.lemmas.List.{drop_at}
 use Rattle.std.proofs.lemmas.List.Folds.{list_all-append}
-use Rattle.std.proofs.lemmas.Bool.{or_cases, eqb-true, both_ways, and_parts, and_from}
+use Rattle.std.proofs.lemmas.Bool.{or_cases, or_from, both_ways, and_parts, eqb-true}
 use Rattle.selector_spelling.specs.declared.finding.Finding.{Finding}
 use Rattle.selector_spelling.specs.declared.reading.Reading.{Reading}
 use Rattle.selector_spelling.specs.declared.reading.Chains.{Chains}
 use Rattle.selector_spelling.specs.declared.reading.Setting.{Setting}
 use Rattle.selector_spelling.specs.Bytes.{Bytes, is_empty}
-use Rattle.selector_spelling.specs.Letters.{Letter, plain, escape, lone, passes}
-use Rattle.selector_spelling.specs.Lexemes.{Placed, is_word, first_word, unless_first, lexemes}
-use Rattle.selector_spelling.specs.Pieces.{◌>>=◌, nothing, both, piece, pieces}
-use Rattle.selector_round_trip.specs.Balanced.{step_is_balanced}
-use Rattle.selector_round_trip.proofs.Scans.{size}
-use Rattle.selector_round_trip.proofs.Found.{AreFound}
+use Rattle.selector_spelling.specs.Pieces.{◌>>=◌, nothing, both, Piece, piece, piece_length, then_others, pieces}
+use Rattle.selector_round_trip.specs.Balanced.{step_is_balanced, are_balanced}
+use Rattle.selector_round_trip.proofs.Scanned.{IsClosed, IsClosed-nil, IsClosed-append}
 use Rattle.selector_round_trip.proofs.Seen.{seen, both-same, reading_text, both_text}
-use Rattle.selector_round_trip.proofs.Texts.{is_end, ends_first, starts, Ends, IsText, text_nil, text-append}
-use Rattle.selector_round_trip.proofs.Pieces.{IsPiece, PieceRead, begins_piece, is_solid}
-use Rattle.selector_round_trip.proofs.PiecesRead.{AreGood, IsAction, GoodReading, OnReading, piece_good}
+use Rattle.selector_round_trip.proofs.Operators.{is_end, ends_piece}
+use Rattle.selector_round_trip.proofs.Pieces.{IsSelector, IsPiece, begins_piece}
+use Rattle.selector_round_trip.proofs.PiecesRead.{OnPiece, piece_good}
 
--- what came first, where both came to something
-pub record Bound {A B : Type 0} (x : Result A Finding) (f : A → Result B Finding) (y : B) : Type 0 where
-  pub value : A
-  pub is : x ≡ Ok value
-  pub gives : f value ≡ Ok y
+-- a text that begins as a piece does
+pub record Begun (first : Bool) (text : Bytes) : Type 0 where
+  pub b : ℕ
+  pub others : Bytes
+  pub is : text ≡ b ∷ others
+  pub begins : begins_piece first b ≡ true
 
-pub bound : {A B : Type 0} (x : Result A Finding) (f : A → Result B Finding) (y : B) → (x >>= f) ≡ Ok y → Bound x f y
-bound (Ok v) f y h = record { value = v; is = refl; gives = h }
-bound (Err e) f y h = absurd (let w : Err e ≡ Ok y = h in cc)
-
-pub ok_same : {A : Type 0} (x y : A) → ◌≡◌ {A = Result A Finding} (Ok x) (Ok y) → x ≡ y
-ok_same x y h = cc
-
-pub balanced_parts : (a c r : Reading) → both a c ≡ r → list_all step_is_balanced r.steps ≡ true → (list_all step_is_balanced a.steps ≡ true) × (list_all step_is_balanced c.steps ≡ true)
-balanced_parts a c r e balanced =
-    and_parts (list_all step_is_balanced a.steps) (list_all step_is_balanced c.steps)
-    (sym (list_all-append step_is_balanced a.steps c.steps) ∙ ap (λ (x : Reading). list_all step_is_balanced x.steps) e ∙ balanced)
-
-abbrev pub are_solid : List Placed → Bool
-are_solid list = list_all (λ l. is_solid l.lexeme) list
-
--- another piece may stand behind a piece
-begun_ends : (a rest : List Letter) → begins_piece false a ≡ true → ends_first (a ++ rest) ≡ true
-begun_ends [] rest h = absurd (both_ways false refl h)
-begun_ends (plain b ∷ a) rest h = end_sign b (sign_of (eqb b 35 || eqb b 46 || eqb b 91 || eqb b 58) h)
-  where
-    sign_of : (c : Bool) → (c || false) ≡ true → c ≡ true
-    sign_of true h = refl
-    sign_of false h = h
-    end_sign : (b : ℕ) → (eqb b 35 || eqb b 46 || eqb b 91 || eqb b 58) ≡ true → is_end b ≡ true
-    end_sign b h =
-        elim (or_cases (eqb b 35 || eqb b 46 || eqb b 91) (eqb b 58) h) [
-          | inr is ↦ ap is_end (eqb-true b 58 is)
-          | inl h ↦ elim (or_cases (eqb b 35 || eqb b 46) (eqb b 91) h) [
-            | inr is ↦ ap is_end (eqb-true b 91 is)
-            | inl h ↦ elim (or_cases (eqb b 35) (eqb b 46) h) [
-              | inr is ↦ ap is_end (eqb-true b 46 is)
-              | inl is ↦ ap is_end (eqb-true b 35 is)
-            ]
+-- further pieces may stand behind a piece
+piece_ends : (b : ℕ) → begins_piece false b ≡ true → is_end b ≡ true
+piece_ends b h =
+    elim (or_cases (eqb b 35 || eqb b 46 || eqb b 91 || eqb b 58) false h) [
+      | inr none ↦ absurd (both_ways false refl none)
+      | inl h ↦ elim (or_cases (eqb b 35 || eqb b 46 || eqb b 91) (eqb b 58) h) [
+        | inr is ↦ ap is_end (eqb-true b 58 is)
+        | inl h ↦ elim (or_cases (eqb b 35 || eqb b 46) (eqb b 91) h) [
+          | inr is ↦ ap is_end (eqb-true b 91 is)
+          | inl h ↦ elim (or_cases (eqb b 35) (eqb b 46) h) [
+            | inr is ↦ ap is_end (eqb-true b 46 is)
+            | inl is ↦ ap is_end (eqb-true b 35 is)
           ]
         ]
-begun_ends (escape spelled stands ∷ a) rest h = absurd (both_ways false refl h)
-begun_ends (lone ∷ a) rest h = absurd (both_ways false refl h)
+      ]
+    ]
 
-begins_append : (first : Bool) (a b : List Letter) → begins_piece first a ≡ true → begins_piece first (a ++ b) ≡ true
-begins_append first [] b h = absurd (both_ways false refl h)
-begins_append first (l ∷ a) b h = h
+-- the text of some pieces: nothing, or it begins as one
+abbrev pub IsBegun : Bool → Bytes → Type 0
+IsBegun first [] = Unit {0}
+IsBegun first (b ∷ others) = begins_piece first b ≡ true
 
-module _ (inner : Bool → ℕ → List Letter → Result Chains Finding) (setting : Setting) (k : ℕ) (good : AreGood inner (k + 1)) where
-  pub record PiecesRead (first : Bool) (list : List Placed) (r : Reading) : Type 0 where
+pub begun_ends : (text rest : Bytes) → IsBegun false text → ends_piece rest ≡ true → ends_piece (text ++ rest) ≡ true
+begun_ends [] rest h ends = ends
+begun_ends (b ∷ text) rest h ends = piece_ends b h
+
+module _ (inner : Bool → ℕ → Bytes → Result Chains Finding) (setting : Setting) (k : ℕ)
+    (good : (in_has : Bool) (place : ℕ) (text : Bytes) (l : Chains) → inner in_has place text ≡ Ok l → are_balanced l.chains ≡ true → IsSelector inner (k + 1) in_has l) where
+  pub record PiecesRead (first : Bool) (place : ℕ) (r : Reading) : Type 0 where
     pub read : Reading
-    pub is : pieces inner setting first list ≡ Ok read
+    pub is : pieces inner setting first place zero (reading_text r) ≡ Ok read
     pub same : seen read ≡ seen r
 
   -- what some pieces are read as is read again from its canonical text
-  pub record ArePieces (first : Bool) (from : List Placed) (r : Reading) : Type 0 where
-    pub a : List Letter
-    pub list : ℕ → List Placed
-    pub text : IsText Ends k (reading_text r) a list
-    pub solid : (at : ℕ) → are_solid (list at) ≡ true
-    pub count : (at : ℕ) → is_empty (list at) ≡ is_empty from
-    pub begins : is_empty from ≡ false → begins_piece first a ≡ true
-    pub ends : first ≡ false → (rest : List Letter) → Ends rest → Ends (a ++ rest)
-    pub again : (at : ℕ) → PiecesRead first (list at) r
-    pub action : r.notes.removes ≡ true → IsAction setting true
+  pub record ArePieces (first : Bool) (r : Reading) : Type 0 where
+    pub begun : IsBegun first (reading_text r)
+    pub closed : (rest : Bytes) → ends_piece rest ≡ true → IsClosed k (reading_text r) rest
+    pub again : (place : ℕ) → PiecesRead first place r
+    pub nested : setting.nested ≡ true → r.notes.removes ≡ false
+    pub only : r.notes.removes ≡ true → (setting.last ≡ true) × (setting.several ≡ false)
 
-  none : (first : Bool) → ArePieces first [] nothing
+  none : (first : Bool) → ArePieces first nothing
   none first = record {
-    a = [];
-    list = λ at. [];
-    text = text_nil k Ends;
-    solid = λ at. refl;
-    count = λ at. refl;
-    begins = λ (e : true ≡ false). absurd (both_ways true e refl);
-    ends = λ e rest h. h;
-    again = λ at. record { read = nothing; is = refl; same = refl };
-    action = λ (e : false ≡ true). absurd (both_ways false refl e);
+    begun = tt;
+    closed = λ rest ends. IsClosed-nil k rest;
+    again = λ place. record { read = nothing; is = refl; same = refl };
+    nested = λ e. refl;
+    only = λ (e : false ≡ true). absurd (both_ways false refl e);
   }
 
+  -- the number says how many bytes are passed over
+  pieces-skip : (first : Bool) (place n : ℕ) (text : Bytes) → pieces inner setting first place n text ≡ pieces inner setting first (place + n) zero (drop n text)
+  pieces-skip first place zero text = (let e : place ≡ place + 0 = omega arith in ap (λ (p : ℕ). pieces inner setting first p zero text) e)
+  pieces-skip first place (suc n) [] = refl
+  pieces-skip first place (suc n) (b ∷ text) =
+      let e : place + 1 + n ≡ place + suc n = omega arith in
+      pieces-skip first (place + 1) n text ∙ ap (λ (p : ℕ). pieces inner setting first p zero (drop n text)) e
+
+  -- nothing stands behind the action
+  nothing_left : (first : Bool) (place b n : ℕ) (text : Bytes) → drop n (b ∷ text) ≡ [] → pieces inner setting first place (n - 1) text ≡ Ok nothing
+  nothing_left first place b zero text h = absurd (let w : b ∷ text ≡ [] = h in cc)
+  nothing_left first place b (suc n) text h =
+      let e : suc n - 1 ≡ n = omega arith in
+      ap (λ (m : ℕ). pieces inner setting first place m text) e ∙ pieces-skip first place n text ∙ ap (pieces inner setting first (place + n) zero) h
+
+  -- and it is not empty
+  pub record SomePieces (first : Bool) (r : Reading) : Type 0 where
+    pub are : ArePieces first r
+    pub some : is_empty (reading_text r) ≡ false
+
   -- one piece, and the others
-  joined : (first : Bool) (l : Placed) (more : List Placed) (r c : Reading) → GoodReading inner setting k good first (is_empty more) r → ArePieces false more c → (is_empty more ≡ true → c ≡ nothing) → ArePieces first (l ∷ more) (both r c)
-  joined first l more r c g q last =
-      let p = g.piece in
-      let lone : r.notes.removes ≡ true → c ≡ nothing = λ (h : r.notes.removes ≡ true). last (g.action h).ends in
-      let e : reading_text r ++ reading_text c ≡ reading_text (both r c) = sym (both_text r c (λ (h : r.notes.removes ≡ true). (ap (λ (x : Reading). x.steps) (lone h), ap (λ (x : Reading). x.notes.removes) (lone h)))) in
-      let list : ℕ → List Placed = λ (at : ℕ). record { at = at; lexeme = p.x } ∷ q.list (at + size p.a) in
-      let text : IsText Ends k (reading_text (both r c)) (p.a ++ q.a) list =
-      subst (λ (t : Bytes). IsText Ends k t (p.a ++ q.a) list) e (text-append k Ends Ends (reading_text r) (reading_text c) p.a q.a (λ at. record { at = at; lexeme = p.x } ∷ []) q.list p.text q.text (q.ends refl)) in
-      let begun : begins_piece first (p.a ++ q.a) ≡ true = begins_append first p.a q.a p.begins in
+  joined : (first : Bool) (a c : Reading) → IsPiece inner setting k first a → ArePieces false c → (a.notes.removes ≡ true → c ≡ nothing)
+      → (setting.nested ≡ true → a.notes.removes ≡ false) → (a.notes.removes ≡ true → (setting.last ≡ true) × (setting.several ≡ false)) → SomePieces first (both a c)
+  joined first a c p q last nested only =
+      let t = reading_text c in
+      let e : reading_text (both a c) ≡ p.b ∷ (p.others ++ t) =
+      both_text a c (λ (h : a.notes.removes ≡ true). (ap (λ (r : Reading). r.steps) (last h), ap (λ (r : Reading). r.notes.removes) (last h))) ∙ ap (λ (x : Bytes). x ++ t) p.is in
       record {
-        a = p.a ++ q.a;
-        list = list;
-        text = text;
-        solid = λ at. and_from (is_solid p.x) (are_solid (q.list (at + size p.a))) p.solid (q.solid (at + size p.a));
-        count = λ at. refl;
-        begins = λ h. begun;
-        ends = λ (h : first ≡ false) rest ends. record {
-          first = begun_ends (p.a ++ q.a) rest (ap (λ (f : Bool). begins_piece f (p.a ++ q.a)) (sym h) ∙ begun);
-          no_word = λ at. (
-              let w = p.no_word h in
-              let f = text.lexed at rest ends in
-              (ap first_word f ∙ w.0, ap (unless_first is_word) f ∙ ap (λ (b : Bool). if b then q.list (at + size p.a) ++ lexemes (at + size (p.a ++ q.a)) rest else list at ++ lexemes (at + size (p.a ++ q.a)) rest) w.1 ∙ sym f));
+        some = ap is_empty e;
+        are = record {
+          begun = subst (IsBegun first) (sym e) p.begins;
+          closed = λ rest ends. subst (λ (x : Bytes). IsClosed k x rest) (sym e) (IsClosed-append k (p.b ∷ p.others) t rest (p.closed (t ++ rest) (begun_ends t rest q.begun ends)) (q.closed rest ends));
+          again = λ place. (
+              let ends : ends_piece t ≡ true = ap ends_piece (sym (append-nil t)) ∙ begun_ends t [] q.begun refl in
+              let x = p.again place t ends (λ (h : a.notes.removes ≡ true). ap reading_text (last h)) in
+              let n = length p.others in
+              let y = q.again (place + 1 + n) in
+              let skip : x.read.length - 1 ≡ n = (let s = x.size in omega arith) in
+              let behind : pieces inner setting false (place + 1) (piece_length (Ok x.read) - 1) (p.others ++ t) ≡ Ok y.read =
+              ap (λ (m : ℕ). pieces inner setting false (place + 1) m (p.others ++ t)) skip ∙ pieces-skip false (place + 1) n (p.others ++ t)
+              ∙ ap (pieces inner setting false (place + 1 + n) zero) (drop_at p.others t n refl) ∙ y.is in
+              record {
+                read = both x.read.reading y.read;
+                is = ap (pieces inner setting first place zero) e
+                    ∙ ap (λ (z : Result Piece Finding). then_others z (pieces inner setting false (place + 1) (piece_length z - 1) (p.others ++ t))) x.is
+                    ∙ ap (then_others (Ok x.read)) behind;
+                same = both-same x.read.reading y.read a c x.same y.same;
+              });
+          nested = λ h. or_from a.notes.removes c.notes.removes (nested h) (q.nested h);
+          only = λ h. elim (or_cases a.notes.removes c.notes.removes h) [ inl here ↦ only here | inr there ↦ q.only there ];
         };
-        again = λ at. (
-            let x = p.again at in
-            let y = q.again (at + size p.a) in
-            record {
-              read = both x.read y.read;
-              is = ap (λ (b : Bool). piece inner setting first b at p.x >>= λ u. pieces inner setting false (q.list (at + size p.a)) >>= λ v. Ok (both u v)) (q.count (at + size p.a))
-                  ∙ ap (λ (z : Result Reading Finding). z >>= λ u. pieces inner setting false (q.list (at + size p.a)) >>= λ v. Ok (both u v)) x.is
-                  ∙ ap (λ (z : Result Reading Finding). z >>= λ v. Ok (both x.read v)) y.is;
-              same = both-same x.read y.read r c x.same y.same;
-            });
-        action = λ h. elim (or_cases r.notes.removes c.notes.removes h) [
-          | inl here ↦ (let i = g.action here in record { top = i.top; ends = refl; chain = i.chain; single = i.single })
-          | inr there ↦ q.action there
-        ];
       }
 
-  on_reading : (first : Bool) (l : Placed) (more : List Placed) (x : Reading) (o : Result Reading Finding) → piece inner setting first (is_empty more) l.at l.lexeme ≡ o → o ≡ Ok x → OnReading inner setting k good first (is_empty more) o
-      → list_all step_is_balanced x.steps ≡ true → GoodReading inner setting k good first (is_empty more) x
-  on_reading first l more x (Ok y) is e on balanced = (let f : y ≡ x = ok_same y x e in subst (GoodReading inner setting k good first (is_empty more)) f (on (ap (λ (z : Reading). list_all step_is_balanced z.steps) f ∙ balanced)))
-  on_reading first l more x (Err f) is e on balanced = absurd (let w : Err f ≡ Ok x = e in cc)
+  ok_same : (x y : Reading) → ◌≡◌ {A = Result Reading Finding} (Ok x) (Ok y) → x ≡ y
+  ok_same x y h = cc
 
-  pub pieces_good : (first : Bool) (list : List Placed) (r : Reading) → AreFound list → pieces inner setting first list ≡ Ok r → list_all step_is_balanced r.steps ≡ true → ArePieces first list r
-  pieces_good first [] r found h balanced = subst (ArePieces first []) (ok_same nothing r h) (none first)
-  pieces_good first (l ∷ more) r found h balanced =
-      let o = piece inner setting first (is_empty more) l.at l.lexeme in
-      let x = bound o (λ u. pieces inner setting false more >>= λ v. Ok (both u v)) r h in
-      let y = bound (pieces inner setting false more) (λ v. Ok (both x.value v)) r x.gives in
-      let e : both x.value y.value ≡ r = ok_same (both x.value y.value) r y.gives in
-      let q = balanced_parts x.value y.value r e balanced in
-      let g = on_reading first l more x.value o refl x.is (piece_good inner setting k good first (is_empty more) l.at l.lexeme found.0) q.0 in
-      subst (ArePieces first (l ∷ more)) e (joined first l more x.value y.value g (pieces_good false more y.value found.1 y.is q.1) (λ ends. no_more more y.value y.is ends))
-    where
-      no_more : (more : List Placed) (c : Reading) → pieces inner setting false more ≡ Ok c → is_empty more ≡ true → c ≡ nothing
-      no_more [] c h ends = sym (ok_same nothing c h)
-      no_more (l ∷ more) c h ends = absurd (both_ways false refl ends)
+  behind_good : (first : Bool) (place b : ℕ) (text : Bytes) (p : Piece) (r : Reading) → OnPiece inner setting k good first (b ∷ text) (Ok p)
+      → (others : Result Reading Finding) → pieces inner setting false (place + 1) (p.length - 1) text ≡ others → (others >>= λ c. Ok (both p.reading c)) ≡ Ok r
+      → ((c : Reading) → pieces inner setting false (place + 1) (p.length - 1) text ≡ Ok c → list_all step_is_balanced c.steps ≡ true → ArePieces false c)
+      → list_all step_is_balanced r.steps ≡ true → SomePieces first r
+  behind_good first place b text p r on (Err f) others is more balanced = absurd (let w : Err f ≡ Ok r = is in cc)
+  behind_good first place b text p r on (Ok c) others is more balanced =
+      let e : both p.reading c ≡ r = ok_same (both p.reading c) r is in
+      let split : (list_all step_is_balanced p.reading.steps && list_all step_is_balanced c.steps) ≡ true =
+      sym (list_all-append step_is_balanced p.reading.steps c.steps) ∙ ap (λ (x : Reading). list_all step_is_balanced x.steps) e ∙ balanced in
+      let q = and_parts (list_all step_is_balanced p.reading.steps) (list_all step_is_balanced c.steps) split in
+      let g = on q.0 in
+      subst (SomePieces first) e (joined first p.reading c g.piece (more c others q.1)
+      (λ (h : p.reading.notes.removes ≡ true). ok_same c nothing (sym others ∙ nothing_left false (place + 1) b p.length text (g.last h))) g.nested g.only)
+
+  then_good : (first : Bool) (place b : ℕ) (text : Bytes) (p : Result Piece Finding) (r : Reading) → OnPiece inner setting k good first (b ∷ text) p
+      → then_others p (pieces inner setting false (place + 1) (piece_length p - 1) text) ≡ Ok r
+      → ((c : Reading) → pieces inner setting false (place + 1) (piece_length p - 1) text ≡ Ok c → list_all step_is_balanced c.steps ≡ true → ArePieces false c)
+      → list_all step_is_balanced r.steps ≡ true → SomePieces first r
+  then_good first place b text (Err f) r on is more balanced = absurd (let w : Err f ≡ Ok r = is in cc)
+  then_good first place b text (Ok p) r on is more balanced = behind_good first place b text p r on (pieces inner setting false (place + 1) (p.length - 1) text) refl is more balanced
+
+  pub pieces_good : (first : Bool) (place n : ℕ) (text : Bytes) (r : Reading) → pieces inner setting first place n text ≡ Ok r → list_all step_is_balanced r.steps ≡ true → ArePieces first r
+  pieces_good first place n [] r h balanced = subst (ArePieces first) (ok_same nothing r h) (none first)
+  pieces_good first place (suc n) (b ∷ text) r h balanced = pieces_good first (place + 1) n text r h balanced
+  pieces_good first place zero (b ∷ text) r h balanced =
+      let p = piece inner setting first place b text in
+      (then_good first place b text p r (piece_good inner setting k good first place b text) h (λ c e d. pieces_good false (place + 1) (piece_length p - 1) text c e d) balanced).are
+
+  pub compound_good : (place : ℕ) (text : Bytes) (r : Reading) → is_empty text ≡ false → pieces inner setting true place zero text ≡ Ok r → list_all step_is_balanced r.steps ≡ true → SomePieces true r
+  compound_good place [] r some h balanced = absurd (both_ways true some refl)
+  compound_good place (b ∷ text) r some h balanced =
+      let p = piece inner setting true place b text in
+      then_good true place b text p r (piece_good inner setting k good true place b text) h (λ c e d. pieces_good false (place + 1) (piece_length p - 1) text c e d) balanced

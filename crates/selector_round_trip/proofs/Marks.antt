@@ -24,7 +24,7 @@ pub data Mark : Type 0 where
   failed : Mark
   marks : (depth : ℕ) → (paired : Bool) → Mark
 
-abbrev pub closed_one : ℕ → Mark
+abbrev closed_one : ℕ → Mark
 closed_one zero = failed
 closed_one (suc d) = marks d false
 
@@ -37,11 +37,11 @@ abbrev pub run : Mark → Bytes → Mark
 run m [] = m
 run m (b ∷ text) = run (move m b) text
 
-pub run-append : (m : Mark) (a b : Bytes) → run m (a ++ b) ≡ run (run m a) b
+run-append : (m : Mark) (a b : Bytes) → run m (a ++ b) ≡ run (run m a) b
 run-append m [] b = refl
 run-append m (c ∷ a) b = run-append (move m c) a b
 
-pub run_failed : (text : Bytes) → run failed text ≡ failed
+run_failed : (text : Bytes) → run failed text ≡ failed
 run_failed [] = refl
 run_failed (b ∷ text) = run_failed text
 

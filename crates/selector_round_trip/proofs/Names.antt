@@ -1,47 +1,52 @@
--- The canonical text of a name is letters of a name that stand for it; so is that of a string, whose letters are no quotes; and
--- what is read as a name has such a text.
-use Rattle.std.proofs.Common.{◌≡◌, ℕ, ◌+◌, ◌/◌, ◌%◌, ◌<◌, ◌≤◌, Bool, true, false, not, eqb, ltb, leb, ◌&&◌, ◌||◌, List, [], ◌∷◌, ◌++◌, Option, Some, None, if◌then◌else◌, refl, sym, ap, ap₂, subst, ◌∙◌, append_assoc, append-nil, arith, inl, inr}
-use Rattle.std.specs.Prelude.{option_map}
+-- The canonical text of a name is read as that name, whatever follows that is no part of it; it leaves nothing open and is cut
+-- nowhere; and what is read as a name has such a text.
+use Rattle.std.proofs.Common.{◌≡◌, ℕ, zero, suc, ◌+◌, ◌-◌, ◌/◌, ◌%◌, ◌<◌, ◌≤◌, Bool, true, false, not, eqb, ltb, leb, ◌&&◌, ◌||◌, [], ◌∷◌, ◌++◌, Option, Some, None, if◌then◌else◌, refl, sym, ap, ap₂, subst, ◌∙◌, append_assoc, arith, inl, inr}
+use Rattle.std.specs.Prelude.{encode_utf8, is_some, take}
 use Rattle.std.specs.Char.{is_ascii_digit, is_ascii_hexdigit, digit_char, to_ascii_lowercase}
-use Rattle.std.specs.List.{AllByRecursion, list_all}
-use Rattle.std.specs.Str.{bytes_eq, str_to_ascii_lowercase}
+use Rattle.std.specs.List.{AllByRecursion}
+use Rattle.std.specs.Str.{str_to_ascii_lowercase}
 use Rattle.std.proofs.lemmas.Str.{encode_ascii}
 use Rattle.std.proofs.lemmas.Str.Ascii.{lowercase-lowercase, lowercase_is}
-use Rattle.std.proofs.lemmas.List.Folds.{list_all-append}
-use Rattle.std.proofs.lemmas.Bool.{cases_lt, cases_Bool, or_cases, or_parts, lt-leb, le-ltb, leb-true, ne_eqb, eqb-true, eqb-false, and_parts, and_from, and_left, and_right, both_ways, not-true, not-false}
+use Rattle.std.proofs.lemmas.Bool.{cases_lt, cases_Bool, or_parts, lt-leb, le-ltb, ne_eqb, eqb-true, eqb-false, and_parts, both_ways, not-true, not-false}
 use Rattle.selector_tree.specs.declared.letters.Spelling.{Spelling}
-use Rattle.selector_tree.specs.declared.letters.Spelling.TheVariants.{Name, Quoted}
-use Rattle.selector_tree.specs.Letters.{is_within, is_control, is_digit, is_name_byte, hexadecimal, is_numbered, is_marked, letter, begun, behind_dash, name_text}
-use Rattle.selector_tree.specs.Letters as tree
+use Rattle.selector_tree.specs.declared.letters.Spelling.TheVariants.{Name}
+use Rattle.selector_tree.specs.Letters.{is_digit, is_name_byte, hexadecimal, numbered, is_numbered, is_marked, letter, letters, begun, behind_dash, name_text}
 use Rattle.selector_tree.proofs.Spelled.{encode-high}
-use Rattle.selector_spelling.specs.Bytes.{Bytes, is_empty, number, minus, backslash, double_quote}
-use Rattle.selector_spelling.specs.Letters.{Letter, plain, escape, lone, character, other, letters, value_of, value, passes, is_sign, front, behind, begins_with}
-use Rattle.selector_spelling.specs.Letters as spelled
-use Rattle.selector_spelling.specs.Names.{Taken, is_name_letter, may_begin, begins_name, name, onto, string}
-use Rattle.selector_round_trip.proofs.Classes.{apart, below_128, not_hex, control_low, digit_low}
+use Rattle.selector_spelling.specs.Bytes.{Bytes, front, is_empty, number, minus, backslash}
+use Rattle.selector_spelling.specs.Names.{Letter, Taken, onto, joined, run, name, character, escaped, letter_length, begins_name, begins_behind_minus, begins_letter}
+use Rattle.selector_spelling.specs.Names as spelled
+use Rattle.selector_round_trip.proofs.Classes.{below_128, not_hex, control_low, digit_low}
 
--- ---- one letter
+-- ---- one byte
 
--- a text that is one letter, which passes, and stands for one byte; where that isn't in a class, the letter isn't
-pub record One (p : Letter → Bool) (text : Bytes) (b : ℕ) : Type 0 where
-  pub l : Letter
-  pub is : (rest : Bytes) → letters (text ++ rest) ≡ l ∷ letters rest
-  pub fits : p l ≡ true
-  pub stands : value_of l ≡ b ∷ []
-  pub apart : (q : ℕ → Bool) → q b ≡ false → passes q l ≡ false
+run-plain : (b : ℕ) (rest : Bytes) → is_name_byte b ≡ true → run zero (b ∷ rest) ≡ onto (b ∷ []) (run zero rest)
+run-plain b rest h = rw h refl
 
-abbrev plain_one : (p : Letter → Bool) (b : ℕ) → eqb b backslash ≡ false → p (plain b) ≡ true → One p (b ∷ []) b
-plain_one p b h passes = record { l = plain b; is = λ rest. rw h refl; fits = passes; stands = refl; apart = λ q k. k }
+run-escaped : (b : ℕ) (rest : Bytes) → is_ascii_hexdigit b ≡ false → eqb b 0 ≡ false → run zero (backslash ∷ b ∷ rest) ≡ onto (b ∷ []) (run zero rest)
+run-escaped b rest h k = rw (k, h) refl
 
-abbrev other_one : (p : Letter → Bool) (b : ℕ) → is_ascii_hexdigit b ≡ false → p (other b) ≡ true → One p (backslash ∷ b ∷ []) b
-other_one p b h passes = record { l = other b; is = λ rest. rw h refl; fits = passes; stands = refl; apart = λ q k. refl }
+-- U+0000 is no digit
+hex_some : (d : ℕ) → is_ascii_hexdigit d ≡ true → eqb d 0 ≡ false
+hex_some d h = ne_eqb d 0 (λ e. both_ways (is_ascii_hexdigit d) (ap is_ascii_hexdigit e) h)
 
-character-ascii : (b : ℕ) → 0 < b → b < 128 → character b ≡ b ∷ []
+run-one : (d : ℕ) (rest : Bytes) → is_ascii_hexdigit d ≡ true → run zero (backslash ∷ d ∷ 32 ∷ rest) ≡ onto (character (number 16 (d ∷ []))) (run zero rest)
+run-one d rest h = rw (hex_some d h, h) refl
+
+run-two : (d e : ℕ) (rest : Bytes) → is_ascii_hexdigit d ≡ true → is_ascii_hexdigit e ≡ true → run zero (backslash ∷ d ∷ e ∷ 32 ∷ rest) ≡ onto (character (number 16 (d ∷ e ∷ []))) (run zero rest)
+run-two d e rest h k = rw (hex_some d h, h, k) refl
+
+pub character-ascii : (b : ℕ) → 0 < b → b < 128 → character b ≡ b ∷ []
 character-ascii b some low =
     let x : eqb b 0 ≡ false = ne_eqb b 0 (λ e. omega arith) in
     let y : leb 0xD800 b ≡ false = lt-leb 0xD800 b (omega arith) in
     let z : ltb 0x10FFFF b ≡ false = le-ltb 0x10FFFF b (omega arith) in
     rw (x, y, z) (encode_ascii b low)
+
+pub numbered-one : (b : ℕ) → ltb b 16 ≡ true → numbered b ≡ backslash ∷ digit_char b ∷ 32 ∷ []
+numbered-one b h = rw h refl
+
+pub numbered-two : (b : ℕ) → ltb b 16 ≡ false → numbered b ≡ backslash ∷ digit_char (b / 16) ∷ digit_char (b % 16) ∷ 32 ∷ []
+numbered-two b h = rw h refl
 
 -- the digits of a byte below 128 are digits, and spell it
 abbrev spelled_by_one : ℕ → Bool
@@ -50,7 +55,7 @@ spelled_by_one b = not (ltb b 16) || (is_ascii_hexdigit (digit_char b) && eqb (n
 abbrev spelled_by_two : ℕ → Bool
 spelled_by_two b = ltb b 16 || (is_ascii_hexdigit (digit_char (b / 16)) && is_ascii_hexdigit (digit_char (b % 16)) && eqb (number 16 (digit_char (b / 16) ∷ digit_char (b % 16) ∷ [])) b)
 
-by_one : (b : ℕ) → b < 128 → ltb b 16 ≡ true → (is_ascii_hexdigit (digit_char b) ≡ true) × (number 16 (digit_char b ∷ []) ≡ b)
+pub by_one : (b : ℕ) → b < 128 → ltb b 16 ≡ true → (is_ascii_hexdigit (digit_char b) ≡ true) × (number 16 (digit_char b ∷ []) ≡ b)
 by_one b low h =
     let all : spelled_by_one b ≡ true = below_128 spelled_by_one b low refl in
     let x = is_ascii_hexdigit (digit_char b) in
@@ -59,7 +64,7 @@ by_one b low h =
     let parts = and_parts x y rest in
     (parts.0, eqb-true _ _ parts.1)
 
-by_two : (b : ℕ) → b < 128 → ltb b 16 ≡ false → (is_ascii_hexdigit (digit_char (b / 16)) ≡ true) × (is_ascii_hexdigit (digit_char (b % 16)) ≡ true) × (number 16 (digit_char (b / 16) ∷ digit_char (b % 16) ∷ []) ≡ b)
+pub by_two : (b : ℕ) → b < 128 → ltb b 16 ≡ false → (is_ascii_hexdigit (digit_char (b / 16)) ≡ true) × (is_ascii_hexdigit (digit_char (b % 16)) ≡ true) × (number 16 (digit_char (b / 16) ∷ digit_char (b % 16) ∷ []) ≡ b)
 by_two b low h =
     let all : spelled_by_two b ≡ true = below_128 spelled_by_two b low refl in
     let x = is_ascii_hexdigit (digit_char (b / 16)) in
@@ -70,237 +75,350 @@ by_two b low h =
     let q = and_parts x y p.0 in
     (q.0, q.1, eqb-true _ _ p.1)
 
--- what passes escapes by numbers
-abbrev PassesNumbers : (Letter → Bool) → Type 0
-PassesNumbers p = (d : ℕ) (ds stands : Bytes) → is_ascii_hexdigit d ≡ true → p (escape (backslash ∷ d ∷ ds) stands) ≡ true
-
--- an escape, which is in no class
-record Escaped (p : Letter → Bool) (text : Bytes) (b : ℕ) : Type 0 where
-  one : One p text b
-  none : (q : ℕ → Bool) → passes q one.l ≡ false
-
-numbered_by : (p : Letter → Bool) (b : ℕ) (source stands text : Bytes) → text ≡ tree.numbered b → stands ≡ b ∷ [] → ((rest : Bytes) → letters (text ++ rest) ≡ escape source stands ∷ letters rest)
-    → p (escape source stands) ≡ true → Escaped p (tree.numbered b) b
-numbered_by p b source stands text e k is passes =
-    subst (λ (t : Bytes). Escaped p t b) e (record { one = record { l = escape source stands; is = is; fits = passes; stands = k; apart = λ q h. refl }; none = λ q. refl })
-
-numbered_one : (p : Letter → Bool) (b : ℕ) → PassesNumbers p → 0 < b → b < 128 → Escaped p (tree.numbered b) b
-numbered_one p b numbers some low =
+run-numbered : (b : ℕ) (rest : Bytes) → 0 < b → b < 128 → run zero (numbered b ++ rest) ≡ onto (b ∷ []) (run zero rest)
+run-numbered b rest some low =
     elim (cases_Bool (ltb b 16)) [
       | inl one ↦ (
           let d = by_one b low one in
-          let c = digit_char b in
-          numbered_by p b (backslash ∷ c ∷ 32 ∷ []) (character (number 16 (c ∷ []))) (backslash ∷ c ∷ 32 ∷ []) (rw one refl)
-          (ap character d.1 ∙ character-ascii b some low) (λ rest. rw d.0 refl) (numbers c (32 ∷ []) (character (number 16 (c ∷ []))) d.0))
+          ap (λ (v : Bytes). run zero (v ++ rest)) (numbered-one b one) ∙ (run-one (digit_char b) rest d.0 ∙ ap (λ (n : ℕ). onto (character n) (run zero rest)) d.1 ∙ ap (λ (v : Bytes). onto v (run zero rest)) (character-ascii b some low)))
       | inr two ↦ (
           let d = by_two b low two in
-          let c = digit_char (b / 16) in
-          let e = digit_char (b % 16) in
-          numbered_by p b (backslash ∷ c ∷ e ∷ 32 ∷ []) (character (number 16 (c ∷ e ∷ []))) (backslash ∷ c ∷ e ∷ 32 ∷ []) (rw two refl)
-          (ap character d.2 ∙ character-ascii b some low) (λ rest. rw (d.0, d.1) refl) (numbers c (e ∷ 32 ∷ []) (character (number 16 (c ∷ e ∷ []))) d.0))
+          ap (λ (v : Bytes). run zero (v ++ rest)) (numbered-two b two) ∙ (run-two (digit_char (b / 16)) (digit_char (b % 16)) rest d.0 d.1 ∙ ap (λ (n : ℕ). onto (character n) (run zero rest)) d.2 ∙ ap (λ (v : Bytes). onto v (run zero rest)) (character-ascii b some low)))
     ]
 
 -- a letter prints by its number, behind a `\`, or as it is
-pub letter_cases : (s : Spelling) (P : Bytes → Type 0) (b : ℕ) → (is_numbered s b ≡ true → P (tree.numbered b)) → (is_numbered s b ≡ false → is_marked s b ≡ true → P (backslash ∷ b ∷ []))
+pub letter_cases : (s : Spelling) (P : Bytes → Type 0) (b : ℕ) → (is_numbered s b ≡ true → P (numbered b)) → (is_numbered s b ≡ false → is_marked s b ≡ true → P (backslash ∷ b ∷ []))
     → (is_numbered s b ≡ false → is_marked s b ≡ false → P (b ∷ [])) → P (letter s b)
-letter_cases s P b by_number marked alone =
+letter_cases s P b by_number marked plain =
     elim (cases_Bool (is_numbered s b)) [
-      | inl h ↦ (let e : letter s b ≡ tree.numbered b = rw h refl in subst P (sym e) (by_number h))
+      | inl h ↦ (let e : letter s b ≡ numbered b = rw h refl in subst P (sym e) (by_number h))
       | inr h ↦ elim (cases_Bool (is_marked s b)) [
         | inl k ↦ (let e : letter s b ≡ backslash ∷ b ∷ [] = rw (h, k) refl in subst P (sym e) (marked h k))
-        | inr k ↦ (let e : letter s b ≡ b ∷ [] = rw (h, k) refl in subst P (sym e) (alone h k))
+        | inr k ↦ (let e : letter s b ≡ b ∷ [] = rw (h, k) refl in subst P (sym e) (plain h k))
       ]
     ]
 
--- ---- letters
+-- in a name
+name_cases : (P : Bytes → Type 0) (b : ℕ) → (b < 128 → P (numbered b)) → (is_ascii_hexdigit b ≡ false → P (backslash ∷ b ∷ [])) → (is_name_byte b ≡ true → P (b ∷ [])) → P (letter Name b)
+name_cases P b by_number marked plain =
+    letter_cases Name P b (λ h. by_number (control_low b h)) (λ h k. marked (not_hex b (not-true (is_name_byte b) k))) (λ h k. plain (not-false (is_name_byte b) k))
 
--- a text that is letters of which each passes, and that stand for a value
-pub record Spelled (p : Letter → Bool) (text stands : Bytes) : Type 0 where
-  pub read : List Letter
-  pub is : (rest : Bytes) → letters (text ++ rest) ≡ read ++ letters rest
-  pub all : list_all p read ≡ true
-  pub value : value read ≡ stands
+-- the first letter of a name
+abbrev first_letter : ℕ → Bytes
+first_letter b = if is_digit b then numbered b else letter Name b
 
-abbrev spelled_nil : (p : Letter → Bool) → Spelled p [] []
-spelled_nil p = record { read = []; is = λ rest. refl; all = refl; value = refl }
+first_cases : (P : Bytes → Type 0) (b : ℕ) → (b < 128 → P (numbered b)) → (is_ascii_hexdigit b ≡ false → P (backslash ∷ b ∷ [])) → (is_name_byte b ≡ true → is_digit b ≡ false → P (b ∷ [])) → P (first_letter b)
+first_cases P b by_number marked plain =
+    elim (cases_Bool (is_digit b)) [
+      | inl digit ↦ subst P (ap (λ (c : Bool). if c then numbered b else letter Name b) (sym digit)) (by_number (digit_low b digit))
+      | inr other ↦ subst P (ap (λ (c : Bool). if c then numbered b else letter Name b) (sym other)) (name_cases P b by_number marked (λ h. plain h other))
+    ]
 
-abbrev spelled_cons : (p : Letter → Bool) (one text : Bytes) (b : ℕ) (stands : Bytes) → One p one b → Spelled p text stands → Spelled p (one ++ text) (b ∷ stands)
-spelled_cons p one text b stands o s = record {
-  read = o.l ∷ s.read;
-  is = λ rest. ap letters (append_assoc one text rest) ∙ o.is (text ++ rest) ∙ ap (λ (t : List Letter). o.l ∷ t) (s.is rest);
-  all = and_from (p o.l) (list_all p s.read) o.fits s.all;
-  value = ap₂ ◌++◌ o.stands s.value;
-}
+-- a byte of a name is read as that byte
+run-letter : (b : ℕ) (rest : Bytes) → 0 < b → run zero (letter Name b ++ rest) ≡ onto (b ∷ []) (run zero rest)
+run-letter b rest some =
+    name_cases (λ v. run zero (v ++ rest) ≡ onto (b ∷ []) (run zero rest)) b (run-numbered b rest some) (λ h. run-escaped b rest h (ne_eqb b 0 (λ e. omega arith))) (run-plain b rest)
 
-pub spelled_alone : (p : Letter → Bool) (text stands : Bytes) (s : Spelled p text stands) → letters text ≡ s.read
-spelled_alone p text stands s = ap letters (sym (append-nil text)) ∙ s.is [] ∙ append-nil s.read
+-- the text of a name that doesn't begin with a minus
+name-begun : (b : ℕ) (text : Bytes) → eqb b 45 ≡ false → name_text (b ∷ text) ≡ begun (b ∷ text)
+name-begun b text h = ap (λ (c : Bool). if c then behind_dash text else begun (b ∷ text)) h
 
--- ---- names
+name-dash : (b : ℕ) (text : Bytes) → eqb b 45 ≡ true → name_text (b ∷ text) ≡ behind_dash text
+name-dash b text h = ap (λ (c : Bool). if c then behind_dash text else begun (b ∷ text)) h
+
+run-first : (b : ℕ) (rest : Bytes) → 0 < b → run zero (first_letter b ++ rest) ≡ onto (b ∷ []) (run zero rest)
+run-first b rest some =
+    first_cases (λ v. run zero (v ++ rest) ≡ onto (b ∷ []) (run zero rest)) b (run-numbered b rest some) (λ h. run-escaped b rest h (ne_eqb b 0 (λ e. omega arith))) (λ h k. run-plain b rest h)
+
+-- ---- a name
 
 -- no byte of a name is 0
 abbrev pub IsName : Bytes → Type 0
 IsName [] = Unit {0}
 IsName (b ∷ text) = (0 < b) × IsName text
 
+-- no part of a name stands at the front
+pub record Ends (rest : Bytes) : Type 0 where
+  pub ends : run zero rest ≡ record { value = []; rest = rest }
+
+letters_again : (text rest : Bytes) → IsName text → Ends rest → run zero (letters Name text ++ rest) ≡ record { value = text; rest = rest }
+letters_again [] rest fits ends = ends.ends
+letters_again (b ∷ text) rest fits ends =
+    ap (run zero) (append_assoc (letter Name b) (letters Name text) rest)
+    ∙ run-letter b (letters Name text ++ rest) fits.0
+    ∙ ap (onto (b ∷ [])) (letters_again text rest fits.1 ends)
+
+begun_again : (b : ℕ) (text rest : Bytes) → IsName (b ∷ text) → Ends rest → run zero (begun (b ∷ text) ++ rest) ≡ record { value = b ∷ text; rest = rest }
+begun_again b text rest fits ends =
+    ap (run zero) (append_assoc (first_letter b) (letters Name text) rest)
+    ∙ run-first b (letters Name text ++ rest) fits.0
+    ∙ ap (onto (b ∷ [])) (letters_again text rest fits.1 ends)
+
+minus_again : (text rest : Bytes) → IsName text → Ends rest → run zero (behind_dash text ++ rest) ≡ record { value = minus ∷ text; rest = rest }
+minus_again [] rest fits ends = ap (onto (minus ∷ [])) ends.ends
+minus_again (b ∷ text) rest fits ends = ap (onto (minus ∷ [])) (begun_again b text rest fits ends)
+
+-- a first byte begins a name, alone and behind `-`
+escape_some : (d : ℕ) (rest : Bytes) → 0 < d → begins_behind_minus (backslash ∷ d ∷ rest) ≡ true
+escape_some d rest some =
+    let k : eqb d 0 ≡ false = ne_eqb d 0 (λ e. omega arith) in
+    elim (cases_Bool (is_ascii_hexdigit d)) [ inl h ↦ rw (k, h) refl | inr h ↦ rw (k, h) refl ]
+
+digit_char_some : (d : ℕ) → 0 < digit_char d
+digit_char_some d = elim (cases_Bool (ltb d 10)) [ inl h ↦ rw h (omega arith) | inr h ↦ rw h (omega arith) ]
+
+behind-numbered : (b : ℕ) (rest : Bytes) → begins_behind_minus (numbered b ++ rest) ≡ true
+behind-numbered b rest =
+    elim (cases_Bool (ltb b 16)) [
+      | inl one ↦ ap (λ (v : Bytes). begins_behind_minus (v ++ rest)) (numbered-one b one) ∙ escape_some (digit_char b) (32 ∷ rest) (digit_char_some b)
+      | inr two ↦ ap (λ (v : Bytes). begins_behind_minus (v ++ rest)) (numbered-two b two) ∙ escape_some (digit_char (b / 16)) (digit_char (b % 16) ∷ 32 ∷ rest) (digit_char_some (b / 16))
+    ]
+
+behind-plain : (b : ℕ) (rest : Bytes) → is_name_byte b ≡ true → is_digit b ≡ false → begins_behind_minus (b ∷ rest) ≡ true
+behind-plain b rest h k = rw (h, k) refl
+
+behind-first : (b : ℕ) (rest : Bytes) → 0 < b → begins_behind_minus (first_letter b ++ rest) ≡ true
+behind-first b rest some =
+    first_cases (λ v. begins_behind_minus (v ++ rest) ≡ true) b (λ low. behind-numbered b rest) (λ h. escape_some b rest some) (behind-plain b rest)
+
+-- the first byte that a name prints: a name byte but a digit, or a backslash
+abbrev pub begins_text : ℕ → Bool
+begins_text c = (is_name_byte c && not (is_digit c)) || eqb c backslash
+
+-- the text of a name, by its first byte
+pub record Printed (text : Bytes) : Type 0 where
+  pub first : ℕ
+  pub others : Bytes
+  pub is : text ≡ first ∷ others
+  pub begins : begins_text first ≡ true
+
+printed-numbered : (b : ℕ) (rest : Bytes) → Printed (numbered b ++ rest)
+printed-numbered b rest = record { first = backslash; others = hexadecimal b ++ (32 ∷ rest); is = ap (λ (v : Bytes). backslash ∷ v) (append_assoc (hexadecimal b) (32 ∷ []) rest); begins = refl }
+
+printed-begun : (b : ℕ) (text : Bytes) → Printed (begun (b ∷ text))
+printed-begun b text =
+    let rest = letters Name text in
+    first_cases (λ v. Printed (v ++ rest)) b (λ low. printed-numbered b rest) (λ h. record { first = backslash; others = b ∷ rest; is = refl; begins = refl })
+    (λ h k. record { first = b; others = rest; is = refl; begins = rw (h, k) refl })
+
+printed-dash : (text : Bytes) → Printed (behind_dash text)
+printed-dash [] = record { first = backslash; others = 45 ∷ []; is = refl; begins = refl }
+printed-dash (b ∷ text) = record { first = 45; others = begun (b ∷ text); is = refl; begins = refl }
+
+pub printed : (b : ℕ) (text : Bytes) → Printed (name_text (b ∷ text))
+printed b text =
+    elim (cases_Bool (eqb b 45)) [
+      | inl is_minus ↦ subst Printed (sym (name-dash b text is_minus)) (printed-dash text)
+      | inr other ↦ subst Printed (sym (name-begun b text other)) (printed-begun b text)
+    ]
+
+-- the first byte of a letter is a minus only where the letter is
+abbrev not_minus_first : Bytes → Bool
+not_minus_first [] = true
+not_minus_first (b ∷ text) = not (eqb b 45)
+
+first_not_minus : (b : ℕ) (rest : Bytes) → eqb b 45 ≡ false → not_minus_first (first_letter b ++ rest) ≡ true
+first_not_minus b rest other = first_cases (λ v. not_minus_first (v ++ rest) ≡ true) b (λ low. refl) (λ h. refl) (λ h k. ap not other)
+
+not_minus : (text : Bytes) → not_minus_first text ≡ true → begins_name text ≡ begins_behind_minus text
+not_minus [] h = refl
+not_minus (b ∷ text) h = let e : eqb b 45 ≡ false = not-true (eqb b 45) h in rw e refl
+
+begins-dash : (text rest : Bytes) → IsName text → begins_name (behind_dash text ++ rest) ≡ true
+begins-dash [] rest fits = refl
+begins-dash (b ∷ text) rest fits =
+    ap begins_behind_minus (append_assoc (first_letter b) (letters Name text) rest) ∙ behind-first b (letters Name text ++ rest) fits.0
+
+abbrev taken : Bytes → Bytes → Taken
+taken value rest = record { value = value; rest = rest }
+
+-- a printed text begins a name, unless by a minus
+begins-begun : (b : ℕ) (text rest : Bytes) → 0 < b → eqb b 45 ≡ false → begins_name (begun (b ∷ text) ++ rest) ≡ true
+begins-begun b text rest some other =
+    let t = letters Name text ++ rest in
+    let e : begun (b ∷ text) ++ rest ≡ first_letter b ++ t = append_assoc (first_letter b) (letters Name text) rest in
+    ap begins_name e ∙ not_minus (first_letter b ++ t) (first_not_minus b t other) ∙ behind-first b t some
+
+named : (text : Bytes) (t : Taken) → begins_name text ≡ true → run zero text ≡ t → name text ≡ Some t
+named text t h r = rw h (ap (λ (u : Taken). Some u) r)
+
+-- the canonical text of a name is read as that name, whatever follows that is no part of it
+pub name_again : (b : ℕ) (text rest : Bytes) → IsName (b ∷ text) → Ends rest → name (name_text (b ∷ text) ++ rest) ≡ Some (record { value = b ∷ text; rest = rest })
+name_again b text rest fits ends =
+    elim (cases_Bool (eqb b 45)) [
+      | inl is_minus ↦ (
+          let e : b ≡ minus = eqb-true b 45 is_minus in
+          let f : name_text (b ∷ text) ≡ behind_dash text = name-dash b text is_minus in
+          let t : Taken = record { value = b ∷ text; rest = rest } in
+          named (name_text (b ∷ text) ++ rest) t
+          (ap (λ (v : Bytes). begins_name (v ++ rest)) f ∙ begins-dash text rest fits.1)
+          (ap (λ (v : Bytes). run zero (v ++ rest)) f ∙ minus_again text rest fits.1 ends ∙ ap (λ (c : ℕ). taken (c ∷ text) rest) (sym e)))
+      | inr other ↦ (
+          let f : name_text (b ∷ text) ≡ begun (b ∷ text) = name-begun b text other in
+          let t : Taken = record { value = b ∷ text; rest = rest } in
+          named (name_text (b ∷ text) ++ rest) t
+          (ap (λ (v : Bytes). begins_name (v ++ rest)) f ∙ begins-begun b text rest fits.0 other)
+          (ap (λ (v : Bytes). run zero (v ++ rest)) f ∙ begun_again b text rest fits ends))
+    ]
+
+-- ---- what the text of a name is made of, for any scan that passes over its letters
+
+pub record Passes (P : Bytes → Bytes → Type 0) : Type 0 where
+  pub nil : (rest : Bytes) → P [] rest
+  pub append : (a b rest : Bytes) → P a (b ++ rest) → P b rest → P (a ++ b) rest
+  -- an escape by its character, and by one digit or two
+  pub escaped : (b : ℕ) (rest : Bytes) → is_ascii_hexdigit b ≡ false → P (backslash ∷ b ∷ []) rest
+  pub one : (d : ℕ) (rest : Bytes) → is_ascii_hexdigit d ≡ true → P (backslash ∷ d ∷ 32 ∷ []) rest
+  pub two : (d e : ℕ) (rest : Bytes) → is_ascii_hexdigit d ≡ true → is_ascii_hexdigit e ≡ true → P (backslash ∷ d ∷ e ∷ 32 ∷ []) rest
+
+module _ (P : Bytes → Bytes → Type 0) (passes : Passes P) where
+  pub numbered_passes : (b : ℕ) (rest : Bytes) → b < 128 → P (numbered b) rest
+  numbered_passes b rest low =
+      elim (cases_Bool (ltb b 16)) [
+        | inl one ↦ (let d = by_one b low one in subst (λ (v : Bytes). P v rest) (sym (numbered-one b one)) (passes.one (digit_char b) rest d.0))
+        | inr two ↦ (let d = by_two b low two in subst (λ (v : Bytes). P v rest) (sym (numbered-two b two)) (passes.two (digit_char (b / 16)) (digit_char (b % 16)) rest d.0 d.1))
+      ]
+
+  module _ (plain : (b : ℕ) (rest : Bytes) → is_name_byte b ≡ true → P (b ∷ []) rest) where
+    letter_passes : (b : ℕ) (rest : Bytes) → P (letter Name b) rest
+    letter_passes b rest = name_cases (λ v. P v rest) b (numbered_passes b rest) (passes.escaped b rest) (plain b rest)
+
+    letters_pass : (text rest : Bytes) → P (letters Name text) rest
+    letters_pass [] rest = passes.nil rest
+    letters_pass (b ∷ text) rest = passes.append (letter Name b) (letters Name text) rest (letter_passes b (letters Name text ++ rest)) (letters_pass text rest)
+
+    begun_passes : (b : ℕ) (text rest : Bytes) → P (begun (b ∷ text)) rest
+    begun_passes b text rest =
+        let more = letters Name text ++ rest in
+        passes.append (first_letter b) (letters Name text) rest (first_cases (λ v. P v more) b (numbered_passes b more) (passes.escaped b more) (λ h k. plain b more h)) (letters_pass text rest)
+
+    dash_passes : (text rest : Bytes) → P (behind_dash text) rest
+    dash_passes [] rest = passes.escaped 45 rest refl
+    dash_passes (b ∷ text) rest = passes.append (45 ∷ []) (begun (b ∷ text)) rest (plain 45 (begun (b ∷ text) ++ rest) refl) (begun_passes b text rest)
+
+    -- a scan that passes over the letters of a name passes over its text
+    pub name_passes : (text rest : Bytes) → P (name_text text) rest
+    name_passes [] rest = passes.nil rest
+    name_passes (b ∷ text) rest =
+        elim (cases_Bool (eqb b 45)) [
+          | inl is_minus ↦ subst (λ (v : Bytes). P v rest) (sym (name-dash b text is_minus)) (dash_passes text rest)
+          | inr other ↦ subst (λ (v : Bytes). P v rest) (sym (name-begun b text other)) (begun_passes b text rest)
+        ]
+
+-- ---- what is read as a name
+
+pub IsName-append : (a b : Bytes) → IsName a → IsName b → IsName (a ++ b)
+IsName-append [] b x y = y
+IsName-append (c ∷ a) b x y = (x.0, IsName-append a b x.1 y)
+
+high_name : (bytes : Bytes) → AllByRecursion (λ b. 128 ≤ b) bytes → IsName bytes
+high_name [] h = tt
+high_name (b ∷ bytes) h = (let k : 128 ≤ b = h.0 in omega arith, high_name bytes h.1)
+
 -- a text that stands for something: no byte is 0, and there is one
 pub record IsRead (text : Bytes) : Type 0 where
   pub name : IsName text
   pub some : is_empty text ≡ false
 
-name_byte_plain : (b : ℕ) → is_name_byte b ≡ true → eqb b backslash ≡ false
-name_byte_plain b h = apart is_name_byte b backslash h refl
-
--- an escape of a digit is no U+0000
-hex_some : (d : ℕ) → is_ascii_hexdigit d ≡ true → eqb d 0 ≡ false
-hex_some d h = ne_eqb d 0 (λ e. both_ways (is_ascii_hexdigit d) (ap is_ascii_hexdigit e) h)
-
-numbers_name : PassesNumbers is_name_letter
-numbers_name d ds stands h = rw (hex_some d h) refl
-
-other_name : (b : ℕ) → eqb b 0 ≡ false → is_name_letter (other b) ≡ true
-other_name b h = rw h refl
-
-abbrev NameLetter : Bytes → ℕ → Type 0
-NameLetter text b = One is_name_letter text b
-
-letter_one : (b : ℕ) → 0 < b → NameLetter (letter Name b) b
-letter_one b some =
-    letter_cases Name (λ v. NameLetter v b) b (λ h. (numbered_one is_name_letter b numbers_name some (control_low b h)).one)
-    (λ h k. other_one is_name_letter b (not_hex b (not-true (is_name_byte b) k)) (other_name b (ne_eqb b 0 (λ e. omega arith))))
-    (λ h k. (let n : is_name_byte b ≡ true = not-false (is_name_byte b) k in plain_one is_name_letter b (name_byte_plain b n) n))
-
-letters_spelled : (text : Bytes) → IsName text → Spelled is_name_letter (tree.letters Name text) text
-letters_spelled [] h = spelled_nil is_name_letter
-letters_spelled (b ∷ text) h = spelled_cons is_name_letter (letter Name b) (tree.letters Name text) b text (letter_one b h.0) (letters_spelled text h.1)
-
--- the first letter of a name
-abbrev first_letter : ℕ → Bytes
-first_letter b = if is_digit b then tree.numbered b else letter Name b
-
-record First (text : Bytes) (b : ℕ) : Type 0 where
-  one : NameLetter text b
-  begins : passes is_ascii_digit one.l ≡ false
-
-first_one : (b : ℕ) → 0 < b → First (first_letter b) b
-first_one b some =
-    elim (cases_Bool (is_digit b)) [
-      | inl digit ↦ (
-          let o = numbered_one is_name_letter b numbers_name some (digit_low b digit) in
-          subst (λ (t : Bytes). First t b) (ap (λ (c : Bool). if c then tree.numbered b else letter Name b) (sym digit)) (record { one = o.one; begins = o.none is_ascii_digit }))
-      | inr other ↦ (
-          let o = letter_one b some in
-          subst (λ (t : Bytes). First t b) (ap (λ (c : Bool). if c then tree.numbered b else letter Name b) (sym other)) (record { one = o; begins = o.apart is_ascii_digit other }))
+encoded : (c : ℕ) → 0 < c → IsRead (encode_utf8 c)
+encoded c some =
+    elim (cases_lt c 128) [
+      | inl low ↦ subst IsRead (sym (encode_ascii c low)) (record { name = (some, tt); some = refl })
+      | inr high ↦ (
+          let e = encode-high c high in
+          let f : 0 < e.first = (let k = e.first_high in omega arith) in
+          subst IsRead (sym e.is) (record { name = (f, high_name e.tail e.high); some = refl }))
     ]
 
--- letters of a name, which begin one
-pub record IsNameText (text stands : Bytes) : Type 0 where
-  pub spelled : Spelled is_name_letter text stands
-  pub begins : (more : List Letter) → begins_name (spelled.read ++ more) ≡ true
+cond_read : (c : Bool) (x y : Bytes) → (c ≡ true → IsRead x) → (c ≡ false → IsRead y) → IsRead (if c then x else y)
+cond_read true x y h g = h refl
+cond_read false x y h g = g refl
 
-behind_first : (text : Bytes) (b : ℕ) (f : First text b) (more : List Letter) → may_begin (f.one.l ∷ more) ≡ true
-behind_first text b f more = and_from (is_name_letter f.one.l) (not (passes is_ascii_digit f.one.l)) f.one.fits (ap not f.begins)
+character_read : (n : ℕ) → IsRead (character n)
+character_read n =
+    cond_read (eqb n 0 || (leb 0xD800 n && leb n 0xDFFF) || ltb 0x10FFFF n) (encode_utf8 0xFFFD) (encode_utf8 n) (λ h. encoded 0xFFFD (omega arith))
+    (λ h. (
+    let p = or_parts (eqb n 0 || (leb 0xD800 n && leb n 0xDFFF)) (ltb 0x10FFFF n) h in
+    let q = or_parts (eqb n 0) (leb 0xD800 n && leb n 0xDFFF) p.0 in
+    let r = eqb-false n 0 q.0 in
+    encoded n (omega (arith, r))))
 
-begun_name : (b : ℕ) (text : Bytes) → IsName (b ∷ text) → eqb b 45 ≡ false → IsNameText (begun (b ∷ text)) (b ∷ text)
-unfolding first_one
-begun_name b text h differs =
-    let f = first_one b h.0 in
-    let s = letters_spelled text h.1 in
-    record {
-      spelled = spelled_cons is_name_letter (first_letter b) (tree.letters Name text) b text f.one s;
-      begins = λ more.
-          ap (λ (c : Bool). if c then may_begin (s.read ++ more) else may_begin (f.one.l ∷ s.read ++ more)) (f.one.apart (λ c. eqb c 45) differs)
-          ∙ behind_first (first_letter b) b f (s.read ++ more);
-    }
+-- what each letter stands for is read
+abbrev OnLetter : Option Letter → Type 0
+OnLetter None = Unit {0}
+OnLetter (Some l) = IsRead l.value
 
-dash_name : (text : Bytes) → IsName text → IsNameText (behind_dash text) (45 ∷ text)
-unfolding first_one
-dash_name [] h = record { spelled = spelled_cons is_name_letter (92 ∷ 45 ∷ []) [] 45 [] (other_one is_name_letter 45 refl refl) (spelled_nil is_name_letter); begins = λ more. refl }
-dash_name (b ∷ text) h =
-    let f = first_one b h.0 in
-    let s = letters_spelled text h.1 in
-    record {
-      spelled = spelled_cons is_name_letter (45 ∷ []) (begun (b ∷ text)) 45 (b ∷ text) (plain_one is_name_letter 45 refl refl) (spelled_cons is_name_letter (first_letter b) (tree.letters Name text) b text f.one s);
-      begins = λ more. behind_first (first_letter b) b f (s.read ++ more);
-    }
+on_cond : (c : Bool) (x y : Option Letter) → (c ≡ true → OnLetter x) → (c ≡ false → OnLetter y) → OnLetter (if c then x else y)
+on_cond true x y h g = h refl
+on_cond false x y h g = g refl
 
--- the canonical text of a name is letters of a name, and stands for it
-pub name_spelled : (text : Bytes) → IsRead text → IsNameText (name_text text) text
-name_spelled [] h = absurd (both_ways true h.some refl)
-name_spelled (b ∷ text) h =
+one_read : (b : ℕ) → 0 < b → IsRead (b ∷ [])
+one_read b some = record { name = (some, tt); some = refl }
+
+some_byte : (b : ℕ) → eqb b 0 ≡ false → 0 < b
+some_byte b h = let r = eqb-false b 0 h in omega (arith, r)
+
+escaped_read : (text : Bytes) → OnLetter (escaped is_name_byte text)
+escaped_read [] = tt
+escaped_read (b ∷ text) =
+    on_cond (eqb b 0) _ _ (λ k. tt)
+    (λ k. on_cond (is_ascii_hexdigit b) _ _ (λ h. character_read (number 16 (front is_ascii_hexdigit (take 6 (b ∷ text)))))
+    (λ h. one_read b (some_byte b k)))
+
+behind_read : (o : Option Letter) → OnLetter o → OnLetter (spelled.behind_backslash o)
+behind_read None h = tt
+behind_read (Some l) h = h
+
+name_byte_some : (b : ℕ) → is_name_byte b ≡ true → 0 < b
+name_byte_some b h = elim (cases_lt 0 b) [ inl some ↦ some | inr none ↦ (let e : b ≡ 0 = omega arith in absurd (both_ways (is_name_byte b) (ap is_name_byte e) h)) ]
+
+letter_read : (b : ℕ) (text : Bytes) → OnLetter (spelled.letter is_name_byte b text)
+letter_read b text =
+    on_cond (is_name_byte b) _ _ (λ h. one_read b (name_byte_some b h))
+    (λ h. on_cond (eqb b backslash) _ _ (λ k. behind_read (escaped is_name_byte text) (escaped_read text)) (λ k. tt))
+
+joined_name : (o : Option Letter) (text : Bytes) (more : Taken) → OnLetter o → IsName more.value → IsName (joined o text more).value
+joined_name None text more h g = tt
+joined_name (Some l) text more h g = IsName-append l.value more.value h.name g
+
+pub run_name : (k : ℕ) (text : Bytes) → IsName (run k text).value
+run_name k [] = tt
+run_name (suc k) (b ∷ text) = run_name k text
+run_name zero (b ∷ text) =
+    let l = spelled.letter is_name_byte b text in
+    joined_name l (b ∷ text) (run (letter_length l - 1) text) (letter_read b text) (run_name (letter_length l - 1) text)
+
+append_some : (a b : Bytes) → is_empty a ≡ false → is_empty (a ++ b) ≡ false
+append_some [] b h = absurd (both_ways true h refl)
+append_some (c ∷ a) b h = refl
+
+joined_some : (o : Option Letter) (text : Bytes) (more : Taken) → OnLetter o → is_some o ≡ true → is_empty (joined o text more).value ≡ false
+joined_some None text more h g = absurd (both_ways false refl g)
+joined_some (Some l) text more h g = append_some l.value more.value h.some
+
+begins_some : (text : Bytes) → begins_name text ≡ true → is_empty (run zero text).value ≡ false
+begins_some [] h = absurd (both_ways false refl h)
+begins_some (b ∷ text) h =
+    let l = spelled.letter is_name_byte b text in
+    joined_some l (b ∷ text) (run (letter_length l - 1) text) (letter_read b text) (
     elim (cases_Bool (eqb b 45)) [
-      | inl is ↦ (
-          let n = subst (λ (c : ℕ). IsNameText (behind_dash text) (c ∷ text)) (sym (eqb-true b 45 is)) (dash_name text h.name.1) in
-          subst (λ (c : Bool). IsNameText (if c then behind_dash text else begun (b ∷ text)) (b ∷ text)) (sym is) n)
-      | inr other ↦ subst (λ (c : Bool). IsNameText (if c then behind_dash text else begun (b ∷ text)) (b ∷ text)) (sym other) (begun_name b text h.name other)
+      | inl is_minus ↦ (let e : b ≡ 45 = eqb-true b 45 is_minus in ap (λ (c : ℕ). is_some (spelled.letter is_name_byte c text)) e)
+      | inr other ↦ (
+          let k : begins_letter b text ≡ true = sym (ap (λ (c : Bool). if c then begins_behind_minus text else begins_letter b text) other) ∙ h in
+          (and_parts (not (is_ascii_digit b)) (is_some l) k).1)
+    ])
+
+pub name_read : (text : Bytes) (t : Taken) → name text ≡ Some t → IsRead t.value
+name_read text t h =
+    elim (cases_Bool (begins_name text)) [
+      | inl begins ↦ (
+          let e : name text ≡ Some (run zero text) = ap (λ (c : Bool). if c then Some (run zero text) else None) begins in
+          let f : run zero text ≡ t = cc in
+          subst (λ (u : Taken). IsRead u.value) f (record { name = run_name zero text; some = begins_some text begins }))
+      | inr none ↦ (
+          let e : name text ≡ None = ap (λ (c : Bool). if c then Some (run zero text) else None) none in
+          absurd (let w : Some t ≡ None = sym h ∙ e in cc))
     ]
-
--- a front of letters that pass
-pub front_all : (p : Letter → Bool) (text rest : List Letter) → list_all p text ≡ true → begins_with p rest ≡ false → (front p (text ++ rest) ≡ text) × (behind p (text ++ rest) ≡ rest)
-front_all p [] [] h g = (refl, refl)
-front_all p [] (l ∷ rest) h g = (ap (λ (c : Bool). if c then l ∷ front p rest else []) g, ap (λ (c : Bool). if c then behind p rest else l ∷ rest) g)
-front_all p (l ∷ text) rest h g =
-    let q = and_parts (p l) (list_all p text) h in
-    let more = front_all p text rest q.1 g in (
-      ap (λ (c : Bool). if c then l ∷ front p (text ++ rest) else []) q.0 ∙ ap (λ (t : List Letter). l ∷ t) more.0,
-      ap (λ (c : Bool). if c then behind p (text ++ rest) else l ∷ text ++ rest) q.0 ∙ more.1,
-    )
-
--- and it is read as that name, whatever follows that is no part of it
-pub name_again : (text stands : Bytes) (n : IsNameText text stands) (rest : List Letter) → begins_with is_name_letter rest ≡ false
-    → name (n.spelled.read ++ rest) ≡ Some (record { value = stands; rest = rest })
-name_again text stands n rest ends =
-    let all = n.spelled.read ++ rest in
-    let f = front_all is_name_letter n.spelled.read rest n.spelled.all ends in
-    ap (λ (c : Bool). if c then Some (record { value = value (front is_name_letter all); rest = behind is_name_letter all }) else None) (n.begins rest)
-    ∙ ap₂ (λ (x y : List Letter). Some (record { value = value x; rest = y })) f.0 f.1 ∙ ap (λ (v : Bytes). Some (record { value = v; rest = rest })) n.spelled.value
-
--- ---- strings
-
--- a letter that ends no string
-abbrev pub is_inside : Letter → Bool
-is_inside (plain b) = not (eqb b double_quote)
-is_inside (escape spelled stands) = true
-is_inside lone = false
-
-inside_apart : (l : Letter) → is_inside l ≡ true → is_sign double_quote l ≡ false
-inside_apart (plain b) h = not-true (eqb b double_quote) h
-inside_apart (escape spelled stands) h = refl
-inside_apart lone h = refl
-
-quoted_marked : (b : ℕ) → (eqb b 34 || eqb b 92) ≡ true → is_ascii_hexdigit b ≡ false
-quoted_marked b h =
-    elim (or_cases (eqb b 34) (eqb b 92) h) [
-      | inl is ↦ ap is_ascii_hexdigit (eqb-true b 34 is)
-      | inr is ↦ ap is_ascii_hexdigit (eqb-true b 92 is)
-    ]
-
-control_some : (b : ℕ) → is_control b ≡ true → 0 < b
-control_some b h =
-    elim (or_cases (is_within 1 31 b) (eqb b 127) h) [
-      | inl within ↦ (let e = leb-true 1 b (and_parts (leb 1 b) (leb b 31) within).0 in omega arith)
-      | inr is ↦ (let e = eqb-true b 127 is in omega arith)
-    ]
-
-quoted_one : (b : ℕ) → One is_inside (letter Quoted b) b
-quoted_one b =
-    letter_cases Quoted (λ v. One is_inside v b) b (λ h. (numbered_one is_inside b (λ d ds stands hex. refl) (control_some b h) (control_low b h)).one)
-    (λ h k. other_one is_inside b (quoted_marked b k) refl)
-    (λ h k. (let p = or_parts (eqb b 34) (eqb b 92) k in plain_one is_inside b p.1 (ap not p.0)))
-
-pub string_spelled : (text : Bytes) → Spelled is_inside (tree.letters Quoted text) text
-string_spelled [] = spelled_nil is_inside
-string_spelled (b ∷ text) = spelled_cons is_inside (letter Quoted b) (tree.letters Quoted text) b text (quoted_one b) (string_spelled text)
-
-string_letters : (read : List Letter) (rest : List Letter) → list_all is_inside read ≡ true → string double_quote (read ++ plain double_quote ∷ rest) ≡ Some (record { value = value read; rest = rest })
-string_letters [] rest h = refl
-string_letters (l ∷ read) rest h =
-    let q = and_parts (is_inside l) (list_all is_inside read) h in
-    ap (λ (c : Bool). if c then Some (record { value = []; rest = read ++ plain double_quote ∷ rest }) else option_map (onto (value_of l)) (string double_quote (read ++ plain double_quote ∷ rest))) (inside_apart l q.0)
-    ∙ ap (option_map (onto (value_of l))) (string_letters read rest q.1)
-
--- and it is read as that string
-pub string_again : (text stands : Bytes) (s : Spelled is_inside text stands) (rest : List Letter) → string double_quote (s.read ++ plain double_quote ∷ rest) ≡ Some (record { value = stands; rest = rest })
-string_again text stands s rest = string_letters s.read rest s.all ∙ ap (λ (v : Bytes). Some (record { value = v; rest = rest })) s.value
 
 -- ---- lower case
 
@@ -326,3 +444,12 @@ lower_read (b ∷ text) h = record { name = lower_name (b ∷ text) h.name; some
 pub lower_lower : (text : Bytes) → str_to_ascii_lowercase (str_to_ascii_lowercase text) ≡ str_to_ascii_lowercase text
 lower_lower [] = refl
 lower_lower (b ∷ text) = ap₂ ◌∷◌ (lowercase-lowercase b) (lower_lower text)
+
+-- the same for what is read
+pub read_again : (text rest : Bytes) → IsRead text → Ends rest → name (name_text text ++ rest) ≡ Some (record { value = text; rest = rest })
+read_again [] rest h ends = absurd (both_ways true h.some refl)
+read_again (b ∷ text) rest h ends = name_again b text rest h.name ends
+
+pub read_printed : (text : Bytes) → IsRead text → Printed (name_text text)
+read_printed [] h = absurd (both_ways true h.some refl)
+read_printed (b ∷ text) h = printed b text

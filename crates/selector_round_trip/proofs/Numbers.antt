@@ -10,8 +10,10 @@ use Rattle.std.proofs.lemmas.List.Folds.{list_all-append}
 use Rattle.std.proofs.lemmas.Bool.{agree_below_at, cases_lt, lt-leb, or_from, ne_eqb, eqb-true, not-true, both_ways, and_parts, and_from, and_right, le-leb, leb-true}
 use Rattle.cos_source.specs.Spaces.{is_space, before_text, without_first_spaces, without_last_spaces, trimmed}
 use Rattle.selector_tree.specs.Canonical.{offset_text}
+use Rattle.selector_spelling.specs.declared.open.Open.TheVariants.{Raw, Round}
 use Rattle.selector_spelling.specs.Bytes.{Bytes, is_empty, front, behind, is_number, number, number_from}
 use Rattle.selector_spelling.specs.Arguments.{Nth, negated, signed, is_plus_or_minus, begins_minus, begins_sign, unsigned, digits, digits_or_one, offset, behind_n, with_n, by_rest, nth_of, nth, text_units, degree}
+use Rattle.selector_round_trip.proofs.Scanned.{IsKept, IsKept-nil, IsKept-append}
 use Rattle.selector_round_trip.proofs.Classes.{apart, implied}
 
 -- ---- digits
@@ -195,7 +197,7 @@ by_rest_again text ds rest n b u d read more =
 abbrev pub is_nth_byte : ℕ → Bool
 is_nth_byte b = is_ascii_digit b || eqb b 43 || eqb b 45 || eqb b 110
 
-pub digit_nth : (text : Bytes) → list_all is_ascii_digit text ≡ true → list_all is_nth_byte text ≡ true
+digit_nth : (text : Bytes) → list_all is_ascii_digit text ≡ true → list_all is_nth_byte text ≡ true
 digit_nth [] h = refl
 digit_nth (b ∷ text) h =
     let p = and_parts (is_ascii_digit b) (list_all is_ascii_digit text) h in
@@ -350,3 +352,44 @@ degree_small text n h =
     let m = number 10 text in
     on_value (λ k. (0 < k) × (k < 256)) (degree text) n (on_cond (λ k. (0 < k) × (k < 256)) (leb 1 m && leb m 255) (Some m) None
     (λ e. (let q = and_parts (leb 1 m) (leb m 255) e in let r = leb-true 1 m q.0 in let s = leb-true m 255 q.1 in (omega arith, omega arith))) tt) h
+
+-- ---- scans of such arguments
+
+-- the bytes before which a bracket stays as it is
+abbrev pub is_steady : ℕ → Bool
+is_steady b = not (eqb b 92 || eqb b 58 || eqb b 40 || eqb b 91 || eqb b 34 || eqb b 39 || eqb b 41 || eqb b 93)
+
+steady_round : (b : ℕ) (rest : Bytes) → is_steady b ≡ true → IsKept (Round ∷ []) (b ∷ []) rest
+steady_round b rest h =
+    let d = apart is_steady b in
+    record { kept = rw (d 93 h refl) refl; ends = rw (d 92 h refl, d 58 h refl, d 40 h refl, d 91 h refl, d 34 h refl, d 39 h refl, d 41 h refl, d 93 h refl) refl }
+
+steady_raw : (b : ℕ) (rest : Bytes) → is_steady b ≡ true → IsKept (Raw ∷ []) (b ∷ []) rest
+steady_raw b rest h = let d = apart is_steady b in record { kept = refl; ends = rw (d 92 h refl, d 40 h refl, d 41 h refl) refl }
+
+pub steady_rounds : (text rest : Bytes) → list_all is_steady text ≡ true → IsKept (Round ∷ []) text rest
+steady_rounds [] rest h = IsKept-nil (Round ∷ []) rest
+steady_rounds (b ∷ text) rest h =
+    let p = and_parts (is_steady b) (list_all is_steady text) h in
+    IsKept-append (Round ∷ []) (b ∷ []) text rest (steady_round b (text ++ rest) p.0) (steady_rounds text rest p.1)
+
+pub steady_raws : (text rest : Bytes) → list_all is_steady text ≡ true → IsKept (Raw ∷ []) text rest
+steady_raws [] rest h = IsKept-nil (Raw ∷ []) rest
+steady_raws (b ∷ text) rest h =
+    let p = and_parts (is_steady b) (list_all is_steady text) h in
+    IsKept-append (Raw ∷ []) (b ∷ []) text rest (steady_raw b (text ++ rest) p.0) (steady_raws text rest p.1)
+
+nth_steady : (text : Bytes) → list_all is_nth_byte text ≡ true → list_all is_steady text ≡ true
+nth_steady [] h = refl
+nth_steady (b ∷ text) h =
+    let p = and_parts (is_nth_byte b) (list_all is_nth_byte text) h in
+    and_from (is_steady b) (list_all is_steady text) (implied is_nth_byte is_steady b refl (nth_byte_low b p.0) p.0) (nth_steady text p.1)
+
+pub nth_round : (a b : ℤ) (rest : Bytes) → IsSmall a → IsSmall b → IsKept (Round ∷ []) (nth_argument a b) rest
+nth_round a b rest h k = steady_rounds (nth_argument a b) rest (nth_steady (nth_argument a b) (nth_bytes a b h k))
+
+pub decimal_round : (n : ℕ) (rest : Bytes) → n < 2 ^ 64 → IsKept (Round ∷ []) (decimal n) rest
+decimal_round n rest h = steady_rounds (decimal n) rest (nth_steady (decimal n) (digit_nth (decimal n) (is_decimal n h).digits))
+
+pub decimal_raw : (n : ℕ) (rest : Bytes) → n < 2 ^ 64 → IsKept (Raw ∷ []) (decimal n) rest
+decimal_raw n rest h = steady_raws (decimal n) rest (nth_steady (decimal n) (digit_nth (decimal n) (is_decimal n h).digits))

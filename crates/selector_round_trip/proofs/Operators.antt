@@ -1,186 +1,33 @@
--- Pieces `[..]`, `:name` and `:name(..)`: their letters, lexemes and scans.
-use Rattle.std.proofs.Common.{◌≡◌, ℕ, zero, suc, ◌+◌, ◌-◌, ◌≤◌, ◌<◌, Bool, true, false, not, eqb, leb, ◌&&◌, ◌||◌, List, [], ◌∷◌, ◌++◌, map, length, Option, Some, None, if◌then◌else◌, refl, sym, ap, ap₂, subst, ◌∙◌, append_assoc, append-nil, arith, inl, inr}
+-- A piece `:name(..)`, and a piece `:name`: how it is scanned, and how it is read.
+use Rattle.std.proofs.Common.{◌≡◌, ℕ, suc, ◌+◌, ◌-◌, ◌<◌, Bool, true, false, not, eqb, leb, ◌&&◌, ◌||◌, [], ◌∷◌, ◌++◌, length, length-append, drop, Option, Some, Result, Ok, if◌then◌else◌, refl, sym, ap, ap₂, subst, ◌∙◌, append_assoc, arith, inl, inr}
 use Rattle.std.specs.List.{list_all}
-use Rattle.std.proofs.lemmas.Bool.{or_cases, eqb-true, both_ways, and_parts, and_from, and_left, and_right, lt-leb}
+use Rattle.std.specs.Str.{str_to_ascii_lowercase}
+use Rattle.std.proofs.lemmas.List.{drop_at}
+use Rattle.std.proofs.lemmas.Bool.{cases_Bool, or_cases, eqb-true, both_ways, and_parts, and_from, and_left, and_right, lt-leb, not-true, ne_eqb}
+use Rattle.selector_tree.specs.Letters.{is_name_byte}
+use Rattle.selector_spelling.specs.declared.finding.Cause.TheVariants as cause
+use Rattle.selector_spelling.specs.declared.finding.Finding.{Finding}
 use Rattle.selector_spelling.specs.declared.open.Open.{Open}
 use Rattle.selector_spelling.specs.declared.open.Open.TheVariants.{Selector, Raw, Round, Square, DoubleQuote, SingleQuote}
+use Rattle.selector_spelling.specs.declared.reading.Reading.{Reading}
+use Rattle.selector_spelling.specs.declared.reading.Chains.{Chains}
+use Rattle.selector_spelling.specs.declared.reading.Setting.{Setting}
+use Rattle.selector_spelling.specs.Bytes.{Bytes, begins_with, front, behind, is_empty, is_pseudo_byte, colon}
+use Rattle.selector_spelling.specs.Names.{begins_name}
+use Rattle.selector_spelling.specs.Operators.{operator_of}
+use Rattle.selector_spelling.specs.Scan.{Scan, is_selector, standing, bare, opens, step, within, is_closed, behind_name, behind_colon}
+use Rattle.selector_spelling.specs.Pieces.{◌>>=◌, Piece, by_operator, with_argument, without_argument, pseudo_class, piece}
 use Rattle.selector_spelling.specs.declared.operator.Operator.{Operator}
-use Rattle.selector_spelling.specs.Bytes.{Bytes, is_empty, is_pseudo_byte, colon, round_open}
-use Rattle.selector_spelling.specs.Letters.{Letter, plain, escape, lone, letters, source, front, behind, begins_with, passes, is_sign, width}
-use Rattle.selector_tree.specs.Letters.{is_name_byte}
-use Rattle.selector_spelling.specs.Names.{is_name_letter, begins_name}
-use Rattle.selector_spelling.specs.Scan.{Scan, standing, bare, is_bare, opened, innermost, in_pieces, inside, step, is_selector, begins_selector, is_wrong, is_too_deep, unbalanced, too_nested}
-use Rattle.selector_spelling.specs.Lexemes.{Lexeme, pseudo, operator, square, Placed, put, Lexed, only, at_colon, at_letter, bracket, bracket_place, at_bracket, at_inside, lexed, lexemes}
+use Rattle.selector_spelling.specs.Pieces as spelled
+use Rattle.selector_round_trip.proofs.Scanned.{is_deep, over, over-append, is_other, is_sound, is_uncut, sound-append, uncut-append, IsSound, IsClosed, IsClosed-nil, IsClosed-append, IsKept, closed_by, kept_sound, kept_uncut, sound-lift, uncut-lift, over-lift, lift}
+use Rattle.selector_round_trip.proofs.NameScans.{is_calm, calm_closed}
 use Rattle.selector_round_trip.proofs.Classes.{apart}
-use Rattle.selector_round_trip.proofs.Names.{front_all}
-use Rattle.selector_round_trip.proofs.Raw.{inside-letter}
-use Rattle.selector_round_trip.proofs.Scans.{IsFine, size, size-append, inside_then, Through, through_nil, through-append, through_letter, through_call, through_pseudo, selectors, is_nested, selectors_pieces, selectors_some, selectors_length, has_pieces, inside-pieces, right_pieces, closes}
-use Rattle.selector_round_trip.proofs.Texts.{is_end, ends_first, Ends, IsText, single}
+use Rattle.selector_round_trip.proofs.Names.{Ends}
+use Rattle.selector_round_trip.proofs.Attributes.{ends_nil, ends_before}
 
--- ---- brackets
-
-bracket-lexed : (name : Option Bytes) (at : ℕ) (l c : Letter) (o : Open) (a rest : List Letter) → step (record { stack = []; name = name }) l ≡ standing (o ∷ []) → step (standing (o ∷ [])) c ≡ bare
-    → Through true (standing (o ∷ [])) a (standing (o ∷ [])) (c ∷ rest)
-    → (lexed (record { stack = []; name = name }) at (l ∷ (a ++ c ∷ rest))).lexemes ≡ put (bracket_place at name o) (bracket name o a) (lexemes (at + width l + size a + width c) rest)
-bracket-lexed name at l c o a rest opens shuts inner =
-    let text = a ++ c ∷ rest in
-    let last = at + width l + size a in
-    let end : lexed (standing (o ∷ [])) last (c ∷ rest) ≡ record { inside = []; is_closed = true; lexemes = lexemes (last + width c) rest } =
-    inside-letter (standing (o ∷ [])) last c rest refl ∙ ap (λ (s : Scan). at_inside c (is_bare s) (lexed s (last + width c) rest)) shuts in
-    let more : lexed (standing (o ∷ [])) (at + width l) text ≡ record { inside = a; is_closed = true; lexemes = lexemes (last + width c) rest } =
-    inner.kept refl (at + width l) ∙ ap (inside_then a) end ∙ ap (λ (i : List Letter). record { inside = i; is_closed = true; lexemes = lexemes (last + width c) rest }) (append-nil a) in
-    ap (λ (s : Scan). (if not (is_bare s) then only (at_bracket name at s.stack (lexed s (at + width l) text)) else only (at_letter name at l text (lexed s (at + width l) text).lexemes)).lexemes) opens
-    ∙ ap (λ (m : Lexed). at_bracket name at (o ∷ []) m) more
-
-through_any : (nested : Bool) (s t : Scan) (a rest : List Letter) → Through true s a t rest → Through nested s a t rest
-through_any nested s t a rest x = record { fine = x.fine; kept = λ e at. x.kept refl at }
-
-module _ (k : ℕ) where
-  pub square_text : (text : Bytes) (a : List Letter) → ((rest : Bytes) → letters (text ++ 93 ∷ rest) ≡ a ++ plain 93 ∷ letters rest)
-      → ((stack : List Open) (rest : List Letter) → Through true (standing (Square ∷ stack)) a (standing (Square ∷ stack)) (plain 93 ∷ rest))
-      → IsText Ends k (91 ∷ (text ++ 93 ∷ [])) (plain 91 ∷ (a ++ plain 93 ∷ [])) (single (square a))
-  square_text text a written through = record {
-    written = λ rest. ap (λ (t : Bytes). plain 91 ∷ letters t) (append_assoc text (93 ∷ []) rest) ∙ ap (λ (u : List Letter). plain 91 ∷ u) (written rest ∙ sym (append_assoc a (plain 93 ∷ []) (letters rest)));
-    lexed = λ at rest ends. (
-        let n : at + 1 + size a + 1 ≡ at + (1 + size (a ++ plain 93 ∷ [])) = omega (arith, size-append a (plain 93 ∷ [])) in
-        ap (λ (u : List Letter). lexemes at (plain 91 ∷ u)) (append_assoc a (plain 93 ∷ []) rest)
-        ∙ bracket-lexed None at (plain 91) (plain 93) Square a rest refl refl (through [] rest) ∙ ap (λ (m : ℕ). put at (square a) (lexemes m rest)) n);
-    through = λ j low rest ends. (
-        let stack = selectors j in
-        let some : is_nested j ≡ true → is_empty stack ≡ false = selectors_some j in
-        let opens : Through (is_nested j) (standing stack) (plain 91 ∷ []) (standing (Square ∷ stack)) ((a ++ plain 93 ∷ []) ++ rest) =
-        through_letter (is_nested j) (standing stack) (plain 91) (standing (Square ∷ stack)) ((a ++ plain 93 ∷ []) ++ rest) (record {
-          goes = inside-pieces (innermost stack) (standing stack) 91 (selectors_pieces j);
-          whole = refl;
-          right = right_pieces (innermost stack) 91 refl refl;
-          shallow = refl;
-          still = λ e. (some e, refl);
-        }) in
-        let shuts : Through (is_nested j) (standing (Square ∷ stack)) (plain 93 ∷ []) (standing stack) rest =
-        through_letter (is_nested j) (standing (Square ∷ stack)) (plain 93) (standing stack) rest (record { goes = refl; whole = refl; right = refl; shallow = refl; still = λ e. (refl, some e) }) in
-        through-append (is_nested j) (standing stack) (standing (Square ∷ stack)) (standing stack) (plain 91 ∷ []) (a ++ plain 93 ∷ []) rest opens
-        (through-append (is_nested j) (standing (Square ∷ stack)) (standing (Square ∷ stack)) (standing stack) a (plain 93 ∷ []) rest
-        (through_any (is_nested j) (standing (Square ∷ stack)) (standing (Square ∷ stack)) a (plain 93 ∷ rest) (through stack rest)) shuts));
-  }
-
--- ---- names of pseudo-classes
-
-pub record IsPseudo (n : Bytes) : Type 0 where
-  pub bytes : list_all is_pseudo_byte n ≡ true
-  pub begins : begins_name (letters n) ≡ true
-  pub some : is_empty n ≡ false
-
-abbrev named : Bytes → Scan
-named n = record { stack = []; name = Some n }
-
-named-lexed : (m n : Bytes) (at : ℕ) (rest : List Letter) → list_all is_pseudo_byte n ≡ true → (lexed (named m) at (map plain n ++ rest)).lexemes ≡ (lexed (named (m ++ n)) (at + length n) rest).lexemes
-named-lexed m [] at rest h =
-    let e : at ≡ at + 0 = omega arith in
-    ap₂ (λ (x : Bytes) (y : ℕ). (lexed (named x) y rest).lexemes) (sym (append-nil m)) e
-named-lexed m (b ∷ n) at rest h =
-    let q = and_parts (is_pseudo_byte b) (list_all is_pseudo_byte n) h in
-    let d = apart is_pseudo_byte b 58 q.0 refl in
-    let text = map plain n ++ rest in
-    let e : at + 1 + length n ≡ at + suc (length n) = omega arith in
-    let goes : in_pieces (named m) b ≡ named (m ++ b ∷ []) = rw (d, q.0) refl in
-    let says : at_letter (Some m) at (plain b) text (lexed (named (m ++ b ∷ [])) (at + 1) text).lexemes ≡ (lexed (named (m ++ b ∷ [])) (at + 1) text).lexemes = rw (d, q.0) refl in
-    ap (λ (s : Scan). (if not (is_bare s) then only (at_bracket (Some m) at s.stack (lexed s (at + 1) text)) else only (at_letter (Some m) at (plain b) text (lexed s (at + 1) text).lexemes)).lexemes) goes
-    ∙ says ∙ named-lexed (m ++ b ∷ []) n (at + 1) rest q.1 ∙ ap₂ (λ (x : Bytes) (y : ℕ). (lexed (named x) y rest).lexemes) (append_assoc m (b ∷ []) n) e
-
-pub written_bytes : (p : ℕ → Bool) (text : Bytes) (rest : Bytes) → p 92 ≡ false → list_all p text ≡ true → letters (text ++ rest) ≡ map plain text ++ letters rest
-written_bytes p [] rest whole h = refl
-written_bytes p (b ∷ text) rest whole h =
-    let q = and_parts (p b) (list_all p text) h in
-    let d = apart p b 92 q.0 whole in
-    rw d (ap (λ (u : List Letter). plain b ∷ u) (written_bytes p text rest whole q.1))
-
-size_bytes : (text : Bytes) → size (map plain text) ≡ length text
-size_bytes [] = refl
-size_bytes (b ∷ text) = omega (arith, size_bytes text)
-
-pub source_bytes : (text : Bytes) → source (map plain text) ≡ text
-source_bytes [] = refl
-source_bytes (b ∷ text) = ap (λ (t : Bytes). b ∷ t) (source_bytes text)
-
-all_pseudo : (n : Bytes) → list_all is_pseudo_byte n ≡ true → list_all (passes is_pseudo_byte) (map plain n) ≡ true
-all_pseudo [] h = refl
-all_pseudo (b ∷ n) h = (let q = and_parts (is_pseudo_byte b) (list_all is_pseudo_byte n) h in and_from (is_pseudo_byte b) (list_all (passes is_pseudo_byte) (map plain n)) q.0 (all_pseudo n q.1))
-
-no_colon : (n : Bytes) (rest : List Letter) → list_all is_pseudo_byte n ≡ true → is_empty n ≡ false → begins_with (is_sign colon) (map plain n ++ rest) ≡ false
-no_colon [] rest h some = absurd (both_ways true some refl)
-no_colon (b ∷ n) rest h some = apart is_pseudo_byte b 58 (and_parts (is_pseudo_byte b) (list_all is_pseudo_byte n) h).0 refl
-
--- what a `:` and a name begin
-colon-lexed : (n : Bytes) (at : ℕ) (rest : List Letter) → IsPseudo n → begins_with (passes is_pseudo_byte) rest ≡ false
-    → lexemes at (plain 58 ∷ (map plain n ++ rest)) ≡ (if begins_with (is_sign round_open) rest then (lexed (named n) (at + 1 + length n) rest).lexemes else put at (pseudo n) (lexed (named n) (at + 1 + length n) rest).lexemes)
-colon-lexed n at rest h ends =
-    let text = map plain n ++ rest in
-    let others = (lexed (named []) (at + 1) text).lexemes in
-    let f = front_all (passes is_pseudo_byte) (map plain n) rest (all_pseudo n h.bytes) ends in
-    rw (no_colon n rest h.bytes h.some) (ap₂ (λ (x y : List Letter). if begins_with (is_sign round_open) y then others else put at (pseudo (source x)) others) f.0 f.1)
-    ∙ ap₂ (λ (x : List Placed) (y : Bytes). if begins_with (is_sign round_open) rest then x else put at (pseudo y) x) (named-lexed [] n (at + 1) rest h.bytes) (source_bytes n)
-
--- ---- `:name(..)`
-
-abbrev pub operator_text : Bytes → Bytes → Bytes
-operator_text n argument = 58 ∷ (n ++ 40 ∷ (argument ++ 41 ∷ []))
-
-abbrev pub operator_letters : Bytes → List Letter → List Letter
-operator_letters n a = (plain 58 ∷ map plain n) ++ plain 40 ∷ (a ++ plain 41 ∷ [])
-
-closes_bare : (o : Open) → closes o ≡ true → step (standing (o ∷ [])) (plain 41) ≡ bare
-closes_bare Selector h = refl
-closes_bare Raw h = refl
-closes_bare Round h = refl
-closes_bare Square h = absurd (both_ways false refl h)
-closes_bare DoubleQuote h = absurd (both_ways false refl h)
-closes_bare SingleQuote h = absurd (both_ways false refl h)
-
-put-operator : (n : Bytes) (at : ℕ) (o : Open) (a : List Letter) (others : List Placed) → closes o ≡ true → put (bracket_place (at + 1 + length n) (Some n) o) (bracket (Some n) o a) others ≡ put at (operator n a) others
-put-operator n at Selector a others h = (let e : at + 1 + length n - 1 - length n ≡ at = omega arith in ap (λ (m : ℕ). put m (operator n a) others) e)
-put-operator n at Raw a others h = (let e : at + 1 + length n - 1 - length n ≡ at = omega arith in ap (λ (m : ℕ). put m (operator n a) others) e)
-put-operator n at Round a others h = (let e : at + 1 + length n - 1 - length n ≡ at = omega arith in ap (λ (m : ℕ). put m (operator n a) others) e)
-put-operator n at Square a others h = absurd (both_ways false refl h)
-put-operator n at DoubleQuote a others h = absurd (both_ways false refl h)
-put-operator n at SingleQuote a others h = absurd (both_ways false refl h)
-
-module _ (k : ℕ) where
-  pub operator_is_text : (n text : Bytes) (a : List Letter) (o : Open) → IsPseudo n → opened (Some n) ≡ o → closes o ≡ true
-      → ((rest : Bytes) → letters (text ++ 41 ∷ rest) ≡ a ++ plain 41 ∷ letters rest)
-      → ((j : ℕ) → j ≤ k → (rest : List Letter) → Through true (standing (o ∷ selectors j)) a (standing (o ∷ selectors j)) (plain 41 ∷ rest))
-      → ((j : ℕ) → j ≤ k → (rest : List Letter) → is_too_deep (record { stack = selectors j; name = Some n }) (plain 40) (a ++ plain 41 ∷ rest) ≡ false)
-      → IsText Ends k (operator_text n text) (operator_letters n a) (single (operator n a))
-  operator_is_text n text a o h opens shuts written through shallow = record {
-    written = λ rest. (
-        let e : (n ++ 40 ∷ (text ++ 41 ∷ [])) ++ rest ≡ n ++ 40 ∷ (text ++ 41 ∷ rest) = append_assoc n (40 ∷ (text ++ 41 ∷ [])) rest ∙ ap (λ (t : Bytes). n ++ 40 ∷ t) (append_assoc text (41 ∷ []) rest) in
-        ap (λ (t : Bytes). plain 58 ∷ letters t) e ∙ ap (λ (u : List Letter). plain 58 ∷ u) (written_bytes is_pseudo_byte n (40 ∷ (text ++ 41 ∷ rest)) refl h.bytes)
-        ∙ ap (λ (u : List Letter). (plain 58 ∷ map plain n) ++ plain 40 ∷ u) (written rest ∙ sym (append_assoc a (plain 41 ∷ []) (letters rest)))
-        ∙ sym (append_assoc (plain 58 ∷ map plain n) (plain 40 ∷ (a ++ plain 41 ∷ [])) (letters rest)));
-    lexed = λ at rest ends. (
-        let e : operator_letters n a ++ rest ≡ plain 58 ∷ (map plain n ++ plain 40 ∷ (a ++ plain 41 ∷ rest)) =
-        append_assoc (plain 58 ∷ map plain n) (plain 40 ∷ (a ++ plain 41 ∷ [])) rest ∙ ap (λ (u : List Letter). plain 58 ∷ (map plain n ++ plain 40 ∷ u)) (append_assoc a (plain 41 ∷ []) rest) in
-        let place : at + 1 + length n + 1 + size a + 1 ≡ at + size (operator_letters n a) =
-        omega (arith, size-append (plain 58 ∷ map plain n) (plain 40 ∷ (a ++ plain 41 ∷ [])), size-append a (plain 41 ∷ []), size_bytes n) in
-        ap (lexemes at) e ∙ colon-lexed n at (plain 40 ∷ (a ++ plain 41 ∷ rest)) h refl
-        ∙ bracket-lexed (Some n) (at + 1 + length n) (plain 40) (plain 41) o a rest (ap (λ (p : Open). standing (p ∷ [])) opens) (closes_bare o shuts) (through 0 (omega arith) rest)
-        ∙ put-operator n at o a (lexemes (at + 1 + length n + 1 + size a + 1) rest) shuts ∙ ap (λ (m : ℕ). put at (operator n a) (lexemes m rest)) place);
-    through = λ j low rest ends.
-        through_call (is_nested j) (selectors j) (selectors_some j) (selectors_pieces j) n o a rest h.bytes opens shuts (shallow j low rest)
-        (through_any (is_nested j) (standing (o ∷ selectors j)) (standing (o ∷ selectors j)) a (plain 41 ∷ rest) (through j low rest));
-  }
-
--- what is no selector is not too deep
-pub other_shallow : (s : Scan) (l : Letter) (rest : List Letter) → begins_selector s.name rest ≡ false → is_too_deep s l rest ≡ false
-other_shallow s l rest h = and_right (is_sign round_open l && leb 16 (length s.stack) && list_all is_selector s.stack) (begins_selector s.name rest) h
-
--- nor is what few are around
-pub few_shallow : (j : ℕ) (name : Option Bytes) (l : Letter) (rest : List Letter) → j < 16 → is_too_deep (record { stack = selectors j; name = name }) l rest ≡ false
-few_shallow j name l rest h =
-    let e : leb 16 (length (selectors j)) ≡ false = ap (leb 16) (selectors_length j) ∙ lt-leb 16 j h in
-    and_left (is_sign round_open l && leb 16 (length (selectors j)) && list_all is_selector (selectors j)) (begins_selector name rest)
-    (and_left (is_sign round_open l && leb 16 (length (selectors j))) (list_all is_selector (selectors j)) (and_right (is_sign round_open l) (leb 16 (length (selectors j))) e))
-
--- ---- `:name`
+-- what may stand behind a piece
+abbrev pub is_end : ℕ → Bool
+is_end b = eqb b 46 || eqb b 35 || eqb b 91 || eqb b 58 || eqb b 41 || eqb b 44 || eqb b 32
 
 pub end_in : (P : ℕ → Type 0) → P 46 → P 35 → P 91 → P 58 → P 41 → P 44 → P 32 → (b : ℕ) → is_end b ≡ true → P b
 end_in P t u v w x y z b h =
@@ -204,66 +51,255 @@ end_in P t u v w x y z b h =
       ]
     ]
 
--- behind the name a scan stands as if there were none
-module _ (c : ℕ) (n : Bytes) where
-  abbrev behind_name : List Open → Scan
-  behind_name stack = record { stack = stack; name = Some (c ∷ n) }
+abbrev pub ends_piece : Bytes → Bool
+ends_piece [] = true
+ends_piece (b ∷ rest) = is_end b
 
-  same_pieces : (stack : List Open) (b : ℕ) → is_end b ≡ true → in_pieces (behind_name stack) b ≡ in_pieces (standing stack) b
-  same_pieces stack b h = end_in (λ e. in_pieces (behind_name stack) e ≡ in_pieces (standing stack) e) refl refl refl refl refl refl refl b h
+-- ---- the name of a pseudo-class
 
-  same_lexed : (at : ℕ) (rest : List Letter) → ends_first rest ≡ true → (lexed (behind_name []) at rest).lexemes ≡ lexemes at rest
-  same_lexed at [] h = refl
-  same_lexed at (plain b ∷ rest) h = end_in (λ e. (lexed (behind_name []) at (plain e ∷ rest)).lexemes ≡ lexemes at (plain e ∷ rest)) refl refl refl refl refl refl refl b h
-  same_lexed at (escape spelled stands ∷ rest) h = absurd (both_ways false refl h)
-  same_lexed at (lone ∷ rest) h = absurd (both_ways false refl h)
+-- no name of a pseudo-class goes on into the text
+abbrev pub stops : Bytes → Bool
+stops [] = true
+stops (b ∷ rest) = not (is_pseudo_byte b)
 
-  module _ (nested : Bool) (stack : List Open) (some : nested ≡ true → is_empty stack ≡ false) (pieces : has_pieces (innermost stack) ≡ true) where
-    same_through : (rest : List Letter) → ends_first rest ≡ true → Through nested (behind_name stack) [] (standing stack) rest
-    same_through [] h = record { fine = λ f. record { balanced = f.balanced; shallow = λ at. refl }; kept = λ e at. refl }
-    same_through (plain b ∷ rest) h =
-        let e : step (behind_name stack) (plain b) ≡ step (standing stack) (plain b) = inside-pieces (innermost stack) (behind_name stack) b pieces ∙ same_pieces stack b h ∙ sym (inside-pieces (innermost stack) (standing stack) b pieces) in
-        let d : eqb b 40 ≡ false = apart is_end b 40 h refl in
-        let deep : (name : Option Bytes) → is_too_deep (record { stack = stack; name = name }) (plain b) rest ≡ false = λ (name : Option Bytes). rw d refl in
-        record {
-          fine = λ f. record {
-            balanced = λ outermost at.
-                ap (λ (s : Scan). if is_wrong (standing stack) (plain b) then Some at else unbalanced s (if is_empty stack then at else outermost) (at + 1) rest) e ∙ f.balanced outermost at;
-            shallow = λ at. (
-                let g : too_nested (step (standing stack) (plain b)) (at + 1) rest ≡ None = (let k = f.shallow at in rw (deep None) at k) in
-                rw (deep (Some (c ∷ n))) (ap (λ (s : Scan). too_nested s (at + 1) rest) e ∙ g));
-          };
-          kept = λ i at. (
-              let m : at ≡ at + 0 = omega arith in
-              inside-letter (behind_name stack) at (plain b) rest (some i) ∙ ap (λ (s : Scan). at_inside (plain b) (is_bare s) (lexed s (at + 1) rest)) e
-              ∙ sym (inside-letter (standing stack) at (plain b) rest (some i)) ∙ ap (λ (x : ℕ). lexed (standing stack) x (plain b ∷ rest)) m);
-        }
-    same_through (escape spelled stands ∷ rest) h = absurd (both_ways false refl h)
-    same_through (lone ∷ rest) h = absurd (both_ways false refl h)
+front_stops : (rest : Bytes) → stops rest ≡ true → (front is_pseudo_byte rest ≡ []) × (behind is_pseudo_byte rest ≡ rest)
+front_stops [] h = (refl, refl)
+front_stops (b ∷ rest) h = (
+    let e : is_pseudo_byte b ≡ false = not-true (is_pseudo_byte b) h in
+    (ap (λ (c : Bool). if c then b ∷ front is_pseudo_byte rest else []) e, ap (λ (c : Bool). if c then behind is_pseudo_byte rest else b ∷ rest) e))
 
-pub ends_apart : (rest : List Letter) → ends_first rest ≡ true → (begins_with (passes is_pseudo_byte) rest ≡ false) × (begins_with (is_sign round_open) rest ≡ false) × (begins_with is_name_letter rest ≡ false)
-ends_apart [] h = (refl, refl, refl)
-ends_apart (plain b ∷ rest) h =
-    end_in (λ e. (is_pseudo_byte e ≡ false) × (eqb e 40 ≡ false) × (is_name_byte e ≡ false)) (refl, refl, refl) (refl, refl, refl) (refl, refl, refl) (refl, refl, refl) (refl, refl, refl) (refl, refl, refl) (refl, refl, refl) b h
-ends_apart (escape spelled stands ∷ rest) h = absurd (both_ways false refl h)
-ends_apart (lone ∷ rest) h = absurd (both_ways false refl h)
+pub front_name : (n rest : Bytes) → list_all is_pseudo_byte n ≡ true → stops rest ≡ true → (front is_pseudo_byte (n ++ rest) ≡ n) × (behind is_pseudo_byte (n ++ rest) ≡ rest)
+front_name [] rest h g = front_stops rest g
+front_name (b ∷ n) rest h g =
+    let p = and_parts (is_pseudo_byte b) (list_all is_pseudo_byte n) h in
+    let more = front_name n rest p.1 g in (
+      ap (λ (c : Bool). if c then b ∷ front is_pseudo_byte (n ++ rest) else []) p.0 ∙ ap (λ (t : Bytes). b ∷ t) more.0,
+      ap (λ (c : Bool). if c then behind is_pseudo_byte (n ++ rest) else b ∷ (n ++ rest)) p.0 ∙ more.1,
+    )
 
-module _ (k : ℕ) where
-  pub pseudo_is_text : (n : Bytes) → IsPseudo n → IsText Ends k (58 ∷ n) (plain 58 ∷ map plain n) (single (pseudo n))
-  pseudo_is_text [] h = absurd (both_ways true h.some refl)
-  pseudo_is_text (c ∷ n) h =
-      let name = c ∷ n in
-      let a = plain 58 ∷ map plain name in
-      record {
-        written = λ rest. ap (λ (u : List Letter). plain 58 ∷ u) (written_bytes is_pseudo_byte name rest refl h.bytes);
-        lexed = λ at rest ends. (
-            let e = ends_apart rest ends.first in
-            let place : at + 1 + length name ≡ at + size a = omega (arith, size_bytes name) in
-            colon-lexed name at rest h e.0 ∙ ap (λ (b : Bool). if b then (lexed (named name) (at + 1 + length name) rest).lexemes else put at (pseudo name) (lexed (named name) (at + 1 + length name) rest).lexemes) e.1
-            ∙ ap (λ (x : List Placed). put at (pseudo name) x) (same_lexed c n (at + 1 + length name) rest ends.first ∙ ap (λ (m : ℕ). lexemes m rest) place));
-        through = λ j low rest ends.
-            subst (λ (u : List Letter). Through (is_nested j) (standing (selectors j)) u (standing (selectors j)) rest) (append-nil a)
-            (through-append (is_nested j) (standing (selectors j)) (behind_name c n (selectors j)) (standing (selectors j)) a [] rest
-            (through_pseudo (is_nested j) (selectors j) (selectors_some j) (selectors_pieces j) name rest h.bytes)
-            (same_through c n (is_nested j) (selectors j) (selectors_some j) (selectors_pieces j) rest ends.first));
-      }
+-- a name of a pseudo-class in its one spelling
+pub record IsPseudo (n : Bytes) : Type 0 where
+  pub bytes : list_all is_pseudo_byte n ≡ true
+  pub begins : begins_name n ≡ true
+  pub lower : str_to_ascii_lowercase n ≡ n
+  pub some : is_empty n ≡ false
+
+no_colon : (n rest : Bytes) → list_all is_pseudo_byte n ≡ true → is_empty n ≡ false → begins_with colon (n ++ rest) ≡ false
+no_colon [] rest h some = absurd (both_ways true some refl)
+no_colon (b ∷ n) rest h some = apart is_pseudo_byte b 58 (and_parts (is_pseudo_byte b) (list_all is_pseudo_byte n) h).0 refl
+
+colon-name : (n rest : Bytes) → IsPseudo n → stops rest ≡ true → behind_colon [] (n ++ rest) ≡ behind_name [] n rest
+colon-name n rest h g =
+    let e = front_name n rest h.bytes g in
+    ap (λ (c : Bool). if c then record { stack = []; skip = 1; next = Round } else behind_name [] (front is_pseudo_byte (n ++ rest)) (behind is_pseudo_byte (n ++ rest))) (no_colon n rest h.bytes h.some)
+    ∙ ap₂ (behind_name []) e.0 e.1
+
+-- ---- the scan of a name
+
+abbrev skipping : Bytes → Open → Scan
+skipping n o = record { stack = []; skip = length n; next = o }
+
+skipped_over : (n rest : Bytes) (o : Open) → over (skipping n o) n rest ≡ skipping [] o
+skipped_over [] rest o = refl
+skipped_over (b ∷ n) rest o = skipped_over n rest o
+
+skips : (n : ℕ) → eqb (suc n) 0 ≡ false
+skips n = ne_eqb (suc n) 0 (λ e. omega arith)
+
+skipped_sound : (k : ℕ) (n rest : Bytes) (o : Open) → is_sound k (skipping n o) n rest ≡ true
+skipped_sound k [] rest o = refl
+skipped_sound k (b ∷ n) rest o = (let e = skips (length n) in rw e (skipped_sound k n rest o))
+
+skipped_uncut : (n rest : Bytes) (o : Open) → is_uncut (skipping n o) n rest ≡ true
+skipped_uncut [] rest o = refl
+skipped_uncut (b ∷ n) rest o = (let e = skips (length n) in rw e (skipped_uncut n rest o))
+
+-- ---- the scan of a whole piece
+
+abbrev pub operator_text : Bytes → Bytes → Bytes
+operator_text n argument = 58 ∷ (n ++ 40 ∷ (argument ++ 41 ∷ []))
+
+abbrev behind_operator : Bytes → Bytes → Bytes
+behind_operator argument rest = (argument ++ 41 ∷ []) ++ rest
+
+colon-operator : (n argument rest : Bytes) → IsPseudo n → behind_colon [] ((n ++ 40 ∷ (argument ++ 41 ∷ [])) ++ rest) ≡ skipping n (opens n (argument ++ 41 ∷ rest))
+colon-operator n argument rest h =
+    let e : (n ++ 40 ∷ (argument ++ 41 ∷ [])) ++ rest ≡ n ++ 40 ∷ (argument ++ 41 ∷ rest) = append_assoc n (40 ∷ (argument ++ 41 ∷ [])) rest ∙ ap (λ (t : Bytes). n ++ 40 ∷ t) (append_assoc argument (41 ∷ []) rest) in
+    ap (behind_colon []) e ∙ colon-name n (40 ∷ (argument ++ 41 ∷ rest)) h refl
+    ∙ ap (λ (m : Bytes). record { stack = []; skip = length n; next = opens m (argument ++ 41 ∷ rest) }) h.lower
+
+-- the `:` of a piece whose argument is not too deep
+shallow_step : (k : ℕ) (text : Bytes) (n : Bytes) (o : Open) → behind_colon [] text ≡ skipping n o → (leb 16 (k + 0) && is_selector o) ≡ false → is_deep k bare 58 text ≡ false
+shallow_step k text n o e h =
+    let x : is_selector (behind_colon [] text).next ≡ is_selector o = ap (λ (s : Scan). is_selector s.next) e in
+    elim (cases_Bool (leb 16 (k + 0))) [
+      | inl deep ↦ (
+          let y : is_selector o ≡ false = sym (ap (λ (c : Bool). c && is_selector o) deep) ∙ h in
+          and_right (leb 16 (k + 0) && true) (is_selector (behind_colon [] text).next) (x ∙ y))
+      | inr low ↦ and_left (leb 16 (k + 0) && true) (is_selector (behind_colon [] text).next) (and_left (leb 16 (k + 0)) true low)
+    ]
+
+-- where the name and what is behind it are passed over from `skipping`, the whole is closed
+closed_from : (k : ℕ) (n argument rest : Bytes) (o : Open) → IsPseudo n → opens n (argument ++ 41 ∷ rest) ≡ o
+    → (leb 16 (k + 0) && is_selector o) ≡ false
+    → is_sound k (standing (o ∷ [])) (argument ++ 41 ∷ []) rest ≡ true
+    → is_uncut (standing (o ∷ [])) (argument ++ 41 ∷ []) rest ≡ true
+    → over (standing (o ∷ [])) (argument ++ 41 ∷ []) rest ≡ bare
+    → IsClosed k (operator_text n argument) rest
+closed_from k n argument rest o h opened shallow sound uncut ends =
+    let body = 40 ∷ (argument ++ 41 ∷ []) in
+    let next : step bare 58 ((n ++ body) ++ rest) ≡ skipping n o = colon-operator n argument rest h ∙ ap (skipping n) opened in
+    let passed : over (skipping n o) n (body ++ rest) ≡ skipping [] o = skipped_over n (body ++ rest) o in
+    let s : is_sound k (skipping n o) (n ++ body) rest ≡ true = sound-append k (skipping n o) n body rest (skipped_sound k n (body ++ rest) o) (ap (λ (t : Scan). is_sound k t body rest) passed ∙ sound) in
+    let u : is_uncut (skipping n o) (n ++ body) rest ≡ true = uncut-append (skipping n o) n body rest (skipped_uncut n (body ++ rest) o) (ap (λ (t : Scan). is_uncut t body rest) passed ∙ uncut) in
+    let deep : is_deep k bare 58 ((n ++ body) ++ rest) ≡ false = shallow_step k ((n ++ body) ++ rest) n o (colon-operator n argument rest h ∙ ap (skipping n) opened) shallow in
+    record {
+      sound = and_from (not (is_deep k bare 58 ((n ++ body) ++ rest))) (is_sound k (step bare 58 ((n ++ body) ++ rest)) (n ++ body) rest) (ap not deep) (ap (λ (t : Scan). is_sound k t (n ++ body) rest) next ∙ s);
+      uncut = ap (λ (t : Scan). is_uncut t (n ++ body) rest) next ∙ u;
+      ends = ap (λ (t : Scan). over t (n ++ body) rest) next ∙ over-append (skipping n o) n body rest ∙ ap (λ (t : Scan). over t body rest) passed ∙ ends;
+    }
+
+-- a round bracket closes it
+abbrev pub closes : Open → Bool
+closes Selector = true
+closes Raw = true
+closes Round = true
+closes Square = false
+closes DoubleQuote = false
+closes SingleQuote = false
+
+last_step : (k : ℕ) (o : Open) (rest : Bytes) → closes o ≡ true → (is_sound k (standing (o ∷ [])) (41 ∷ []) rest ≡ true) × (is_uncut (standing (o ∷ [])) (41 ∷ []) rest ≡ true) × (over (standing (o ∷ [])) (41 ∷ []) rest ≡ bare)
+last_step k Selector rest h = (refl, refl, refl)
+last_step k Raw rest h = (refl, refl, refl)
+last_step k Round rest h = (refl, refl, refl)
+last_step k Square rest h = absurd (both_ways false refl h)
+last_step k DoubleQuote rest h = absurd (both_ways false refl h)
+last_step k SingleQuote rest h = absurd (both_ways false refl h)
+
+other_shallow : (k : ℕ) (o : Open) → is_other (Some o) ≡ true → (leb 16 (k + 0) && is_selector o) ≡ false
+other_shallow k Selector h = absurd (both_ways false refl h)
+other_shallow k Raw h = and_right (leb 16 (k + 0)) false refl
+other_shallow k Round h = and_right (leb 16 (k + 0)) false refl
+other_shallow k Square h = and_right (leb 16 (k + 0)) false refl
+other_shallow k DoubleQuote h = and_right (leb 16 (k + 0)) false refl
+other_shallow k SingleQuote h = and_right (leb 16 (k + 0)) false refl
+
+-- an argument that is no selector
+pub operator_closed : (k : ℕ) (n argument rest : Bytes) (o : Open) → IsPseudo n → opens n (argument ++ 41 ∷ rest) ≡ o → is_other (Some o) ≡ true
+    → IsKept (o ∷ []) argument (41 ∷ rest) → closes o ≡ true → IsClosed k (operator_text n argument) rest
+operator_closed k n argument rest o h opened other kept closing =
+    let s = sound-append k (standing (o ∷ [])) argument (41 ∷ []) rest (kept_sound k (standing (o ∷ [])) argument (41 ∷ rest) kept.kept) (ap (λ (t : Scan). is_sound k t (41 ∷ []) rest) kept.ends ∙ (last_step k o rest closing).0) in
+    let u = uncut-append (standing (o ∷ [])) argument (41 ∷ []) rest (kept_uncut (standing (o ∷ [])) argument (41 ∷ rest) kept.kept) (ap (λ (t : Scan). is_uncut t (41 ∷ []) rest) kept.ends ∙ (last_step k o rest closing).1) in
+    let e = over-append (standing (o ∷ [])) argument (41 ∷ []) rest ∙ ap (λ (t : Scan). over t (41 ∷ []) rest) kept.ends ∙ (last_step k o rest closing).2 in
+    closed_from k n argument rest o h opened (other_shallow k o other) s u e
+
+-- an argument that is one
+pub selector_closed : (k : ℕ) (n argument rest : Bytes) → IsPseudo n → opens n (argument ++ 41 ∷ rest) ≡ Selector → k < 16 → IsSound (k + 1) argument (41 ∷ rest) → IsClosed k (operator_text n argument) rest
+selector_closed k n argument rest h opened room inner =
+    let from = standing (Selector ∷ []) in
+    let behind : over from argument (41 ∷ rest) ≡ from = over-lift (k + 1) bare argument (41 ∷ rest) inner.sound ∙ ap lift inner.ends in
+    let last = last_step k Selector rest refl in
+    let s = sound-append k from argument (41 ∷ []) rest (sound-lift k bare argument (41 ∷ rest) inner.sound) (ap (λ (t : Scan). is_sound k t (41 ∷ []) rest) behind ∙ last.0) in
+    let u = uncut-append from argument (41 ∷ []) rest (uncut-lift (k + 1) bare argument (41 ∷ rest) inner.sound) (ap (λ (t : Scan). is_uncut t (41 ∷ []) rest) behind ∙ last.1) in
+    let e = over-append from argument (41 ∷ []) rest ∙ ap (λ (t : Scan). over t (41 ∷ []) rest) behind ∙ last.2 in
+    let low : leb 16 (k + 0) ≡ false = lt-leb 16 (k + 0) (omega arith) in
+    closed_from k n argument rest Selector h opened (and_left (leb 16 (k + 0)) true low) s u e
+
+-- what may stand behind a piece is none of its name, and opens no argument
+end_apart : (b : ℕ) → is_end b ≡ true → (is_pseudo_byte b ≡ false) × (eqb b 40 ≡ false) × (is_name_byte b ≡ false) × (eqb b 92 ≡ false)
+end_apart b h =
+    let p : ℕ → Type 0 = λ (c : ℕ). (is_pseudo_byte c ≡ false) × (eqb c 40 ≡ false) × (is_name_byte c ≡ false) × (eqb c 92 ≡ false) in
+    end_in p (refl, refl, refl, refl) (refl, refl, refl, refl) (refl, refl, refl, refl) (refl, refl, refl, refl) (refl, refl, refl, refl) (refl, refl, refl, refl) (refl, refl, refl, refl) b h
+
+pub end_stops : (rest : Bytes) → ends_piece rest ≡ true → stops rest ≡ true
+end_stops [] h = refl
+end_stops (b ∷ rest) h = ap not (end_apart b h).0
+
+pub end_ends : (rest : Bytes) → ends_piece rest ≡ true → Ends rest
+end_ends [] h = ends_nil
+end_ends (b ∷ rest) h = (let e = end_apart b h in ends_before b rest e.2 e.3)
+
+name-ends : (n rest : Bytes) → ends_piece rest ≡ true → behind_name [] n rest ≡ bare
+name-ends n [] h = refl
+name-ends n (b ∷ rest) h = ap (λ (c : Bool). if c then record { stack = []; skip = length n; next = opens (str_to_ascii_lowercase n) rest } else bare) (end_apart b h).1
+
+colon_closed : (k : ℕ) (n rest : Bytes) → IsPseudo n → ends_piece rest ≡ true → IsClosed k (58 ∷ []) (n ++ rest)
+colon_closed k n rest h ends =
+    let e : behind_colon [] (n ++ rest) ≡ bare = colon-name n rest h (end_stops rest ends) ∙ name-ends n rest ends in
+    let x : is_selector (behind_colon [] (n ++ rest)).next ≡ false = ap (λ (s : Scan). is_selector s.next) e in
+    record {
+      sound = ap (λ (c : Bool). not c && true) (and_right (leb 16 (k + 0) && true) (is_selector (behind_colon [] (n ++ rest)).next) x);
+      uncut = refl;
+      ends = e;
+    }
+
+pseudo_name_byte : (b : ℕ) → is_pseudo_byte b ≡ true → is_calm b ≡ true
+pseudo_name_byte b h =
+    let d = apart is_pseudo_byte b in
+    rw (d 92 h refl, d 58 h refl, d 40 h refl, d 91 h refl, d 34 h refl, d 39 h refl, d 41 h refl, d 93 h refl, d 44 h refl, d 62 h refl, d 43 h refl, d 126 h refl, d 32 h refl, d 9 h refl, d 12 h refl, d 13 h refl) refl
+
+pub pseudo_closed : (k : ℕ) (n rest : Bytes) → list_all is_pseudo_byte n ≡ true → IsClosed k n rest
+pseudo_closed k [] rest h = IsClosed-nil k rest
+pseudo_closed k (b ∷ n) rest h =
+    let p = and_parts (is_pseudo_byte b) (list_all is_pseudo_byte n) h in
+    IsClosed-append k (b ∷ []) n rest (calm_closed k b (n ++ rest) (pseudo_name_byte b p.0)) (pseudo_closed k n rest p.1)
+
+-- a piece without an argument
+pub plain_closed : (k : ℕ) (n rest : Bytes) → IsPseudo n → ends_piece rest ≡ true → IsClosed k (58 ∷ n) rest
+plain_closed k n rest h ends =
+    IsClosed-append k (58 ∷ []) n rest (colon_closed k n rest h ends) (pseudo_closed k n rest h.bytes)
+
+-- ---- reading
+
+behind_argument : (argument rest : Bytes) → drop (length argument + 1) (argument ++ 41 ∷ rest) ≡ rest
+behind_argument argument rest =
+    let e : argument ++ 41 ∷ rest ≡ (argument ++ 41 ∷ []) ++ rest = sym (append_assoc argument (41 ∷ []) rest) in
+    let n : length argument + 1 ≡ length (argument ++ 41 ∷ []) = (omega (arith, length-append argument (41 ∷ []))) in
+    ap (drop (length argument + 1)) e ∙ drop_at (argument ++ 41 ∷ []) rest (length argument + 1) (sym n)
+
+-- what stands in a bracket that is closed is read
+pub where_closed_is : {A : Type 0} (at : ℕ) (opened : Open) (text : Bytes) (read : Result A Finding) → is_closed (standing (opened ∷ [])) text ≡ true → spelled.where_closed at opened text read ≡ read
+where_closed_is at opened text read h = ap (λ (c : Bool). if c then read else spelled.bad cause.Unbalanced at) h
+
+module _ (inner : Bool → ℕ → Bytes → Result Chains Finding) (setting : Setting) (first : Bool) where
+  abbrev op_piece : ℕ → ℕ → Bytes → Result Reading Finding → Result Piece Finding
+  op_piece at from argument r = r >>= λ x. Ok (record { length = from - at + length argument + 1; reading = x })
+
+  pub operator_again : (at : ℕ) (n argument rest : Bytes) (o : Operator) (r : Reading) → IsPseudo n → operator_of n ≡ Some o
+      → within (standing (opens n (argument ++ 41 ∷ rest) ∷ [])) (argument ++ 41 ∷ rest) ≡ argument
+      → by_operator inner setting first (is_empty rest) at (at + 1 + length n + 1) argument (Some o) ≡ Ok r
+      → piece inner setting first at 58 ((n ++ 40 ∷ (argument ++ 41 ∷ [])) ++ rest) ≡ Ok (record { length = length (operator_text n argument); reading = r })
+  operator_again at n argument rest o r h named inside read =
+      let text = argument ++ 41 ∷ rest in
+      let from = at + 1 + length n + 1 in
+      let e : (n ++ 40 ∷ (argument ++ 41 ∷ [])) ++ rest ≡ n ++ 40 ∷ text = append_assoc n (40 ∷ (argument ++ 41 ∷ [])) rest ∙ ap (λ (t : Bytes). n ++ 40 ∷ t) (append_assoc argument (41 ∷ []) rest) in
+      let f = front_name n (40 ∷ text) h.bytes refl in
+      let left : drop (length argument + 1) text ≡ rest = behind_argument argument rest in
+      let size : from - at + length argument + 1 ≡ length (operator_text n argument) = omega (arith, length-append n (40 ∷ (argument ++ 41 ∷ [])), length-append argument (41 ∷ [])) in
+      ap (piece inner setting first at 58) e
+      ∙ ap (λ (c : Bool). if c then spelled.pseudo_element at (drop 1 (n ++ 40 ∷ text)) else pseudo_class inner setting first at (n ++ 40 ∷ text)) (no_colon n (40 ∷ text) h.bytes h.some)
+      ∙ ap₂ (λ (x y : Bytes). if begins_name x then spelled.behind_name inner setting first at (str_to_ascii_lowercase x) (at + 1 + length x) y else spelled.bad cause.BadName at) f.0 f.1
+      ∙ ap (λ (c : Bool). if c then spelled.behind_name inner setting first at (str_to_ascii_lowercase n) (at + 1 + length n) (40 ∷ text) else spelled.bad cause.BadName at) h.begins
+      ∙ ap (λ (m : Bytes). with_argument inner setting first at m from text) h.lower
+      ∙ where_closed_is at (opens n text) text _ (closed_by (opens n text) 41 argument rest inside)
+      ∙ ap (λ (a : Bytes). op_piece at from a (by_operator inner setting first (is_empty (drop (length a + 1) text)) at from a (operator_of n))) inside
+      ∙ ap₂ (λ (t : Bytes) (q : Option Operator). op_piece at from argument (by_operator inner setting first (is_empty t) at from argument q)) left named
+      ∙ ap (op_piece at from argument) read
+      ∙ ap (λ (m : ℕ). Ok (record { length = m; reading = r })) size
+
+  no_argument : (at : ℕ) (n : Bytes) (from : ℕ) (rest : Bytes) → ends_piece rest ≡ true → spelled.behind_name inner setting first at n from rest ≡ without_argument at n from
+  no_argument at n from [] h = refl
+  no_argument at n from (b ∷ rest) h = ap (λ (c : Bool). if c then with_argument inner setting first at n (from + 1) rest else without_argument at n from) (end_apart b h).1
+
+  pub plain_again : (at : ℕ) (n rest : Bytes) (r : Reading) → IsPseudo n → ends_piece rest ≡ true → spelled.without_argument_reading at n ≡ Ok r
+      → piece inner setting first at 58 (n ++ rest) ≡ Ok (record { length = length (58 ∷ n); reading = r })
+  plain_again at n rest r h ends read =
+      let f = front_name n rest h.bytes (end_stops rest ends) in
+      let size : at + 1 + length n - at ≡ length (58 ∷ n) = omega arith in
+      ap (λ (c : Bool). if c then spelled.pseudo_element at (drop 1 (n ++ rest)) else pseudo_class inner setting first at (n ++ rest)) (no_colon n rest h.bytes h.some)
+      ∙ ap₂ (λ (x y : Bytes). if begins_name x then spelled.behind_name inner setting first at (str_to_ascii_lowercase x) (at + 1 + length x) y else spelled.bad cause.BadName at) f.0 f.1
+      ∙ ap (λ (c : Bool). if c then spelled.behind_name inner setting first at (str_to_ascii_lowercase n) (at + 1 + length n) rest else spelled.bad cause.BadName at) h.begins
+      ∙ ap (λ (m : Bytes). spelled.behind_name inner setting first at m (at + 1 + length n) rest) h.lower
+      ∙ no_argument at n (at + 1 + length n) rest ends
+      ∙ ap (λ (x : Result Reading Finding). x >>= λ y. Ok (record { length = at + 1 + length n - at; reading = y })) read
+      ∙ ap (λ (m : ℕ). Ok (record { length = m; reading = r })) size

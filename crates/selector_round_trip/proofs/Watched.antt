@@ -5,15 +5,16 @@ use Rattle.std.specs.List.{list_all, slice_split, onto_first}
 use Rattle.std.specs.Char.{is_ascii_alphanumeric, to_ascii_lowercase}
 use Rattle.std.specs.Str.{str_to_ascii_lowercase}
 use Rattle.std.proofs.lemmas.Bool.{cases_Bool, cases_lt, or_from, ne_eqb, not-true, both_ways, and_parts, and_from, lt-leb}
-use Rattle.std.proofs.lemmas.List.Folds.{list_all-append}
 use Rattle.std.proofs.Math.Bool.{and-false}
 use Rattle.cos_source.specs.Spaces.{is_space, without_first_spaces, without_last_spaces, trimmed}
 use Rattle.selector_tree.specs.Canonical.{behind_comma, joined}
 use Rattle.selector_spelling.specs.Bytes.{Bytes, is_empty, is_blank}
+use Rattle.selector_spelling.specs.declared.open.Open.TheVariants.{Raw}
 use Rattle.selector_spelling.specs.Arguments.{is_watched_byte, watched_name, watched_names, is_comma, watched}
-use Rattle.selector_round_trip.proofs.Classes.{apart, implied, all_within}
-use Rattle.selector_round_trip.proofs.Raw.{is_flat}
+use Rattle.selector_round_trip.proofs.Scanned.{IsKept, IsKept-nil, IsKept-append}
+use Rattle.selector_round_trip.proofs.Classes.{apart, implied}
 use Rattle.selector_round_trip.proofs.Names.{lower_lower}
+use Rattle.selector_round_trip.proofs.NameScans.{calm_raw}
 use Rattle.selector_round_trip.proofs.Numbers.{is_solid, solid_kept, then_some, some_cond}
 
 -- a name as it is read
@@ -149,18 +150,22 @@ watched_again (name ∷ names) h =
     let e : is_blank text ≡ false = ap is_empty (first_kept name (behind_comma names) h.0.bytes h.0.some) ∙ some_front name (behind_comma names) h.0.some in
     ap (λ (c : Bool). if c then Some [] else watched_names (slice_split is_comma text)) e ∙ more_again name names h.0 h.1
 
--- ---- no bracket and no `\` is in it
+-- ---- the scan
 
-name_flat : (text : Bytes) → list_all is_watched_byte text ≡ true → list_all is_flat text ≡ true
-name_flat text h = all_within is_watched_byte is_flat text (λ b k. (let d = apart is_watched_byte b in rw (d 40 k refl, d 41 k refl, d 92 k refl) refl)) h
+raw_name : (text rest : Bytes) → list_all is_watched_byte text ≡ true → IsKept (Raw ∷ []) text rest
+raw_name [] rest h = IsKept-nil (Raw ∷ []) rest
+raw_name (b ∷ text) rest h =
+    let p = and_parts (is_watched_byte b) (list_all is_watched_byte text) h in
+    let d = apart is_watched_byte b in
+    IsKept-append (Raw ∷ []) (b ∷ []) text rest (calm_raw b (text ++ rest) (d 92 p.0 refl) (d 40 p.0 refl) (d 41 p.0 refl)) (raw_name text rest p.1)
 
-flat_append : (a b : Bytes) → list_all is_flat a ≡ true → list_all is_flat b ≡ true → list_all is_flat (a ++ b) ≡ true
-flat_append a b h g = list_all-append is_flat a b ∙ and_from (list_all is_flat a) (list_all is_flat b) h g
+raw_names : (names : List Bytes) (rest : Bytes) → AreWatched names → IsKept (Raw ∷ []) (behind_comma names) rest
+raw_names [] rest h = IsKept-nil (Raw ∷ []) rest
+raw_names (name ∷ names) rest h =
+    IsKept-append (Raw ∷ []) (44 ∷ []) (32 ∷ (name ++ behind_comma names)) rest (calm_raw 44 ((32 ∷ (name ++ behind_comma names)) ++ rest) refl refl refl)
+    (IsKept-append (Raw ∷ []) (32 ∷ []) (name ++ behind_comma names) rest (calm_raw 32 ((name ++ behind_comma names) ++ rest) refl refl refl)
+    (IsKept-append (Raw ∷ []) name (behind_comma names) rest (raw_name name (behind_comma names ++ rest) h.0.bytes) (raw_names names rest h.1)))
 
-names_flat : (names : List Bytes) → AreWatched names → list_all is_flat (behind_comma names) ≡ true
-names_flat [] h = refl
-names_flat (name ∷ names) h = flat_append name (behind_comma names) (name_flat name h.0.bytes) (names_flat names h.1)
-
-pub watched_flat : (names : List Bytes) → AreWatched names → list_all is_flat (joined names) ≡ true
-watched_flat [] h = refl
-watched_flat (name ∷ names) h = flat_append name (behind_comma names) (name_flat name h.0.bytes) (names_flat names h.1)
+pub watched_raw : (names : List Bytes) (rest : Bytes) → AreWatched names → IsKept (Raw ∷ []) (joined names) rest
+watched_raw [] rest h = IsKept-nil (Raw ∷ []) rest
+watched_raw (name ∷ names) rest h = IsKept-append (Raw ∷ []) name (behind_comma names) rest (raw_name name (behind_comma names ++ rest) h.0.bytes) (raw_names names rest h.1)

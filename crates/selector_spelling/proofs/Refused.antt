@@ -67,7 +67,7 @@ empty_part = refl
 
 bad_name : AreMalformed reads cause.BadName (
     (codes "a..b", 1) ∷ (codes ".", 0) ∷ (codes "#", 0) ∷ (codes "a:", 1) ∷ (codes "a::", 1) ∷ (codes "a::1", 1) ∷ (codes "a:::b", 1)
-    ∷ (codes "ab*", 2) ∷ (codes ":root_x", 5) ∷ (codes ":root\"x\"", 5) ∷ (codes "[a]b", 3) ∷ (codes "1a", 0) ∷ (codes ".1a", 0) ∷ (codes "-1a", 0) ∷ (codes "-", 0)
+    ∷ (codes "ab*", 2) ∷ (codes ":root_x", 5) ∷ (codes "[a]b", 3) ∷ (codes "1a", 0) ∷ (codes ".1a", 0) ∷ (codes "-1a", 0) ∷ (codes "-", 0)
     ∷ (codes "#-.a", 0) ∷ (codes ":1a", 0) ∷ (codes ":-", 0) ∷ (codes ":-1", 0) ∷ (58 ∷ 195 ∷ 169 ∷ [], 0) ∷ (195 ∷ 169 ∷ 58 ∷ [], 2)
     ∷ (codes "a\"b\"", 1) ∷ (codes "a(b)", 1) ∷ (codes "a|b", 1) ∷ (codes "a&", 1) ∷ (codes "a/**/", 1) ∷ (codes "a||b", 1) ∷ (codes "a:not(b, .)", 9) ∷ [])
 bad_name = refl

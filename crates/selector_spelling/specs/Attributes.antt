@@ -1,13 +1,12 @@
 -- The inside of `[..]`.
-use Rattle.std.specs.Prelude.{ℕ, List, Bool, true, false, ◌==◌, [], ◌∷◌, codes, Option, Some, None, option_and_then, if◌then◌else◌}
+use Rattle.std.specs.Prelude.{Bool, true, false, ◌==◌, [], ◌∷◌, codes, Option, Some, None, option_and_then, if◌then◌else◌}
 use Rattle.std.specs.Str.{bytes_eq, str_to_ascii_lowercase}
-use Rattle.cos_source.specs.Spaces.{trimmed}
+use Rattle.cos_source.specs.Spaces.{trimmed, without_first_spaces}
 use Rattle.selector_tree.specs.declared.selector.AttrOp.{AttrOp}
 use Rattle.selector_tree.specs.declared.selector.AttrOp.TheVariants.{Exists, Equals, Word, Dash, Prefix, Suffix, Part}
 use Rattle.selector_tree.specs.declared.selector.Test.{Test}
 use Rattle.selector_tree.specs.declared.selector.Test.TheVariants as test
 use Rattle.selector_spelling.specs.Bytes.{Bytes, is_quote, is_empty, equals, tilde, star}
-use Rattle.selector_spelling.specs.Letters.{Letter, plain, escape, lone, source, passes, is_sign, without_first_spaces}
 use Rattle.selector_spelling.specs.Names.{Taken, name, string}
 
 infixl 10 ◌>>=◌
@@ -17,15 +16,16 @@ o >>= f = option_and_then f o
 -- how a value is compared, and the text behind that sign
 pub record Comparison : Type 0 where
   pub op : AttrOp
-  pub rest : List Letter
+  pub rest : Bytes
 
-abbrev pub with_equals : AttrOp → List Letter → Option Comparison
+abbrev pub with_equals : AttrOp → Bytes → Option Comparison
 with_equals op [] = None
-with_equals op (l ∷ text) = if is_sign equals l then Some (record { op = op; rest = text }) else None
+with_equals op (b ∷ text) = if b == equals then Some (record { op = op; rest = text }) else None
 
--- one of `= ~= |= ^= $= *=`, by its first byte
-abbrev pub compared_by : ℕ → List Letter → Option Comparison
-compared_by b text =
+-- one of `= ~= |= ^= $= *=`
+abbrev pub comparison : Bytes → Option Comparison
+comparison [] = None
+comparison (b ∷ text) =
     if b == equals then Some (record { op = Equals; rest = text })
     else if b == tilde then with_equals Word text
     else if b == 124 then with_equals Dash text
@@ -34,18 +34,10 @@ compared_by b text =
     else if b == star then with_equals Part text
     else None
 
-abbrev pub comparison : List Letter → Option Comparison
-comparison [] = None
-comparison (plain b ∷ text) = compared_by b text
-comparison (escape s v ∷ text) = None
-comparison (lone ∷ text) = None
-
 -- a name or a string
-abbrev pub value : List Letter → Option Taken
+abbrev pub value : Bytes → Option Taken
 value [] = None
-value (plain b ∷ text) = if is_quote b then string b text else name (plain b ∷ text)
-value (escape s v ∷ text) = name (escape s v ∷ text)
-value (lone ∷ text) = None
+value (b ∷ text) = if is_quote b then string b 0 text else name (b ∷ text)
 
 -- whether letter case is ignored, by the flag in lower case; `s` says that it isn't
 abbrev pub flag : Bytes → Option Bool
@@ -55,14 +47,14 @@ flag text =
     else if bytes_eq text (codes "s") then Some false
     else None
 
-abbrev pub compared : Bytes → List Letter → Option Test
+abbrev pub compared : Bytes → Bytes → Option Test
 compared key text = do
   c ← comparison text
   v ← value (without_first_spaces c.rest)
-  f ← flag (str_to_ascii_lowercase (trimmed (source v.rest)))
+  f ← flag (str_to_ascii_lowercase (trimmed v.rest))
   Some (test.Attr (str_to_ascii_lowercase key) c.op v.value f)
 
-abbrev pub attribute : List Letter → Option Test
+abbrev pub attribute : Bytes → Option Test
 attribute text = do
   key ← name (without_first_spaces text)
   let rest = without_first_spaces key.rest

@@ -1,10 +1,7 @@
 pub mod Bytes
-pub mod Letters
 pub mod Names
 pub mod Operators
-pub mod Reads
 pub mod Scan
-pub mod Lexemes
 pub mod Cuts
 pub mod Attributes
 pub mod Arguments

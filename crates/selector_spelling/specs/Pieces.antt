@@ -26,12 +26,9 @@ use Rattle.selector_spelling.specs.declared.reading.Reading.{Reading}
 use Rattle.selector_spelling.specs.declared.reading.Chains.{Chains}
 use Rattle.selector_spelling.specs.declared.reading.Setting.{Setting}
 use Rattle.selector_spelling.specs.Bytes.{Bytes, front, behind, begins_with, is_pseudo_byte, is_empty, is_blank, is_number, is_one_of, colon, dot, hash, star, square_open, round_open}
-use Rattle.selector_spelling.specs.Letters.{Letter, letters, source}
 use Rattle.selector_spelling.specs.Names.{Taken, begins_name, name}
 use Rattle.selector_spelling.specs.Operators.{operator_of}
-use Rattle.selector_spelling.specs.Scan.{named_operator}
-use Rattle.selector_spelling.specs.Lexemes.{Lexeme, Placed}
-use Rattle.selector_spelling.specs.Lexemes as lexeme
+use Rattle.selector_spelling.specs.Scan.{standing, opens, within, is_closed}
 use Rattle.selector_spelling.specs.Attributes.{attribute}
 use Rattle.selector_spelling.specs.Arguments.{Nth, nth, text_units, degree, text_argument, sought, Pair, attribute_pair, watched}
 
@@ -194,77 +191,109 @@ upward_to at l =
     if l.notes.operates then bad cause.BadOperatorArgument at
     else Ok (record { steps = step.UpwardTo l.chains ∷ []; notes = record { asks = l.notes.asks; removes = l.notes.removes; operates = true } })
 
--- ---- pieces
+-- a piece, and how many bytes it takes
+pub record Piece : Type 0 where
+  pub length : ℕ
+  pub reading : Reading
 
--- a piece that is a name
-abbrev pub named : ℕ → (Bytes → Test) → Option Taken → Result Reading Finding
-named at of_name None = bad cause.BadName at
-named at of_name (Some n) = Ok (keep (of_name n.value))
+-- ---- pieces at the front of a text
+
+abbrev pub without_argument : ℕ → Bytes → ℕ → Result Piece Finding
+without_argument at n from = without_argument_reading at n >>= λ r. Ok (record { length = from - at; reading = r })
+
+-- behind a `::`
+abbrev pub pseudo_element : ℕ → Bytes → Result Piece Finding
+pseudo_element at text = if begins_name text then aside kind.PseudoElement else bad cause.BadName at
+
+-- a piece that is a name, from its place on; its text begins with the sign where it has one
+abbrev pub named : ℕ → Bytes → (Bytes → Test) → Option Taken → Result Piece Finding
+named at text of_name None = bad cause.BadName at
+named at text of_name (Some n) = Ok (record { length = length text - length n.rest; reading = keep (of_name n.value) })
+
+-- what stands in a bracket is read where another closes it; stage 1 leaves none open
+abbrev pub where_closed : {A : Type 0} → ℕ → Open → Bytes → Result A Finding → Result A Finding
+where_closed at opened text read = if is_closed (standing (opened ∷ [])) text then read else bad cause.Unbalanced at
+
+-- behind a `[`
+abbrev pub attributed : ℕ → Bytes → Result Piece Finding
+attributed at text =
+    let argument = within (standing (Square ∷ [])) text in
+    where_closed at Square text (or_bad cause.BadAttribute at (attribute argument) >>= λ t. Ok (record { length = length argument + 2; reading = keep t }))
 
 abbrev pub tag : Bytes → Test
 tag n = test.Tag (str_to_ascii_lowercase n)
 
-abbrev pub attributed : ℕ → List Letter → Result Reading Finding
-attributed at argument = or_bad cause.BadAttribute at (attribute argument) >>= λ t. Ok (keep t)
+abbrev pub piece_length : Result Piece Finding → ℕ
+piece_length (Ok p) = p.length
+piece_length (Err f) = 0
 
--- `:name`; a name of a pseudo-class is letters, digits and `-`, and a name besides
-abbrev pub pseudo_class : ℕ → Bytes → Result Reading Finding
-pseudo_class at n = if begins_name (letters n) then without_argument_reading at (str_to_ascii_lowercase n) else bad cause.BadName at
-
--- `::name`
-abbrev pub pseudo_element : ℕ → List Letter → Result Reading Finding
-pseudo_element at n = if begins_name n then aside kind.PseudoElement else bad cause.BadName at
-
--- a piece that may stand only first
-abbrev pub if_first : Bool → ℕ → Result Reading Finding → Result Reading Finding
-if_first first at read = if first then read else bad cause.BadName at
+abbrev pub then_others : Result Piece Finding → Result Reading Finding → Result Reading Finding
+then_others (Ok p) others = others >>= λ r. Ok (both p.reading r)
+then_others (Err f) others = Err f
 
 -- An argument that is a selector is read by `inner`, which takes whether it is that of `:has`, its place, and its text.
-module _ (inner : Bool → ℕ → List Letter → Result Chains Finding) where
-  abbrev pub upward : ℕ → ℕ → List Letter → Result Reading Finding
+module _ (inner : Bool → ℕ → Bytes → Result Chains Finding) where
+  abbrev pub upward : ℕ → ℕ → Bytes → Result Reading Finding
   upward at from argument =
-      let text = trimmed (source argument) in
-      if is_number text then climbing at text
+      if is_number (trimmed argument) then climbing at (trimmed argument)
       else (inner false from argument >>= λ l. upward_to at l)
 
   -- `:name(..)`, by what its name says: `at` is the place of the `:`, and `from` that of the argument
-  abbrev pub by_operator : Setting → Bool → Bool → ℕ → ℕ → List Letter → Option Operator → Result Reading Finding
+  abbrev pub by_operator : Setting → Bool → Bool → ℕ → ℕ → Bytes → Option Operator → Result Reading Finding
   by_operator setting alone ends at from argument None = bad cause.UnknownPseudo at
   by_operator setting alone ends at from argument (Some operator.Is) = inner false from argument >>= λ l. Ok (selecting_test test.Is l)
   by_operator setting alone ends at from argument (Some operator.Not) = inner false from argument >>= λ l. Ok (selecting_test test.Not l)
   by_operator setting alone ends at from argument (Some operator.Has) = inner true from argument >>= λ l. Ok (selecting_test test.Has l)
-  by_operator setting alone ends at from argument (Some (operator.Nth from_end of_name)) = counting from_end of_name at (source argument)
-  by_operator setting alone ends at from argument (Some operator.HasText) = searching test.HasText at (source argument)
-  by_operator setting alone ends at from argument (Some operator.MinText) = measuring at (source argument)
-  by_operator setting alone ends at from argument (Some operator.MatchesPath) = searching test.MatchesPath at (source argument)
-  by_operator setting alone ends at from argument (Some operator.MatchesAttr) = matching at (source argument)
-  by_operator setting alone ends at from argument (Some operator.WatchAttr) = watching at (source argument)
+  by_operator setting alone ends at from argument (Some (operator.Nth from_end of_name)) = counting from_end of_name at argument
+  by_operator setting alone ends at from argument (Some operator.HasText) = searching test.HasText at argument
+  by_operator setting alone ends at from argument (Some operator.MinText) = measuring at argument
+  by_operator setting alone ends at from argument (Some operator.MatchesPath) = searching test.MatchesPath at argument
+  by_operator setting alone ends at from argument (Some operator.MatchesAttr) = matching at argument
+  by_operator setting alone ends at from argument (Some operator.WatchAttr) = watching at argument
   by_operator setting alone ends at from argument (Some operator.Upward) = upward at from argument
-  by_operator setting alone ends at from argument (Some operator.Others) = others setting at (source argument)
-  by_operator setting alone ends at from argument (Some operator.Remove) = action setting alone ends at (source argument)
+  by_operator setting alone ends at from argument (Some operator.Others) = others setting at argument
+  by_operator setting alone ends at from argument (Some operator.Remove) = action setting alone ends at argument
   by_operator setting alone ends at from argument (Some (operator.Aside k)) = aside k
 
-  -- `:name(..)`
-  abbrev pub operated : Setting → Bool → Bool → ℕ → Bytes → List Letter → Result Reading Finding
-  operated setting alone ends at n argument =
-      if begins_name (letters n) then by_operator setting alone ends at (at + 2 + length n) argument (named_operator n)
+  -- `:name(..)`, from behind its `(` on
+  abbrev pub with_argument : Setting → Bool → ℕ → Bytes → ℕ → Bytes → Result Piece Finding
+  with_argument setting first at n from text =
+      let argument = within (standing (opens n text ∷ [])) text in
+      where_closed at (opens n text) text
+      (by_operator setting first (is_empty (drop (length argument + 1) text)) at from argument (operator_of n)
+      >>= λ r. Ok (record { length = from - at + length argument + 1; reading = r }))
+
+  -- behind the name of a pseudo-class, at the place `from`
+  abbrev pub behind_name : Setting → Bool → ℕ → Bytes → ℕ → Bytes → Result Piece Finding
+  behind_name setting first at n from [] = without_argument at n from
+  behind_name setting first at n from (b ∷ text) = if b == round_open then with_argument setting first at n (from + 1) text else without_argument at n from
+
+  -- a name of a pseudo-class is letters, digits and `-`, and a name besides
+  abbrev pub pseudo_class : Setting → Bool → ℕ → Bytes → Result Piece Finding
+  pseudo_class setting first at text =
+      let n = front is_pseudo_byte text in
+      if begins_name n then behind_name setting first at (str_to_ascii_lowercase n) (at + 1 + length n) (behind is_pseudo_byte text)
       else bad cause.BadName at
 
-  -- a piece of a compound, by whether it is the first, and the last
-  abbrev pub piece : Setting → Bool → Bool → ℕ → Lexeme → Result Reading Finding
-  piece setting first last at (lexeme.word n) = if_first first at (named at tag (name n))
-  piece setting first last at (lexeme.id n) = named at test.Id (name n)
-  piece setting first last at (lexeme.class n) = named at test.Class (name n)
-  piece setting first last at (lexeme.element n) = pseudo_element at n
-  piece setting first last at (lexeme.pseudo n) = pseudo_class at n
-  piece setting first last at (lexeme.operator n argument) = operated setting first last at n argument
-  piece setting first last at (lexeme.square argument) = attributed at argument
-  piece setting first last at (lexeme.sign b) = if_first first at (if b == star then Ok (keep test.Any) else bad cause.BadName at)
-  piece setting first last at lexeme.unclosed = bad cause.Unbalanced at
-  piece setting first last at l = bad cause.BadName at
+  -- behind a `:`
+  abbrev pub pseudo : Setting → Bool → ℕ → Bytes → Result Piece Finding
+  pseudo setting first at text = if begins_with colon text then pseudo_element at (drop 1 text) else pseudo_class setting first at text
 
-  -- the pieces of a compound, up to the first finding
-  abbrev pub pieces : Setting → Bool → List Placed → Result Reading Finding
-  pieces setting first [] = Ok nothing
-  pieces setting first (l ∷ more) =
-      piece setting first (is_empty more) l.at l.lexeme >>= λ r. pieces setting false more >>= λ others. Ok (both r others)
+  -- the piece that begins with the byte b
+  abbrev pub piece : Setting → Bool → ℕ → ℕ → Bytes → Result Piece Finding
+  piece setting first at b text =
+      if b == hash then named at (b ∷ text) test.Id (name text)
+      else if b == dot then named at (b ∷ text) test.Class (name text)
+      else if b == square_open then attributed at text
+      else if b == colon then pseudo setting first at text
+      else if not first then bad cause.BadName at
+      else if b == star then Ok (record { length = 1; reading = keep test.Any })
+      else named at (b ∷ text) tag (name (b ∷ text))
+
+  -- The pieces of a compound, up to the first finding. The number says how many bytes of a piece are still to come.
+  abbrev pub pieces : Setting → Bool → ℕ → ℕ → Bytes → Result Reading Finding
+  pieces setting first at skip [] = Ok nothing
+  pieces setting first at (suc skip) (b ∷ text) = pieces setting first (at + 1) skip text
+  pieces setting first at zero (b ∷ text) =
+      let p = piece setting first at b text in
+      then_others p (pieces setting false (at + 1) (piece_length p - 1) text)

@@ -1,108 +1,131 @@
--- What is open before each letter of a text: brackets and strings. A place is bare where nothing is.
-use Rattle.std.specs.Prelude.{ℕ, ◌+◌, ◌-◌, nat_le, Bool, true, false, not, ◌==◌, ◌&&◌, ◌||◌, List, [], ◌∷◌, ◌++◌, length, Option, Some, None, option_map, if◌then◌else◌}
+-- What is open before each byte of a text: brackets, strings, escapes. A place is bare where nothing is.
+use Rattle.std.specs.Prelude.{ℕ, zero, suc, ◌+◌, nat_le, nat_lt, Bool, true, false, not, ◌==◌, ◌&&◌, ◌||◌, List, [], ◌∷◌, length, Option, Some, None, if◌then◌else◌}
 use Rattle.std.specs.Char.{is_ascii_digit}
 use Rattle.std.specs.List.{list_all}
 use Rattle.std.specs.Str.{str_to_ascii_lowercase}
+use Rattle.cos_source.specs.Spaces.{without_first_spaces}
 use Rattle.selector_spelling.specs.declared.open.Open.{Open}
 use Rattle.selector_spelling.specs.declared.open.Open.TheVariants.{Selector, Raw, Round, Square, DoubleQuote, SingleQuote}
 use Rattle.selector_spelling.specs.declared.finding.Kind.TheVariants as kind
 use Rattle.selector_spelling.specs.declared.operator.Operator.{Operator}
 use Rattle.selector_spelling.specs.declared.operator.Operator.TheVariants as operator
-use Rattle.selector_spelling.specs.Bytes.{Bytes, is_pseudo_byte, is_quote, is_empty, double_quote, single_quote, round_open, round_close, square_open, square_close, colon}
-use Rattle.selector_spelling.specs.Letters.{Letter, plain, escape, lone, width, passes, is_sign, front, behind, begins_with, without_first_spaces}
+use Rattle.selector_spelling.specs.Bytes.{Bytes, front, behind, begins_with, is_pseudo_byte, is_quote, is_empty, double_quote, single_quote, round_open, round_close, square_open, square_close, backslash, colon}
+use Rattle.selector_spelling.specs.Names.{escape, letter_length}
 use Rattle.selector_spelling.specs.Operators.{operator_of}
 
--- What the bracket of `:name(..)` opens, by what the name is: a selector, another round bracket, or a raw argument, in which
--- only `\`, `(` and `)` count.
-abbrev pub opened_by : Option Operator → Open
-opened_by None = Round
-opened_by (Some operator.Is) = Selector
-opened_by (Some operator.Not) = Selector
-opened_by (Some operator.Has) = Selector
-opened_by (Some operator.Upward) = Selector
-opened_by (Some (operator.Nth from_end of_name)) = Round
-opened_by (Some (operator.Aside kind.State)) = Round
-opened_by (Some o) = Raw
+-- digits up to the closing bracket, with white space around them
+abbrev pub begins_number_argument : Bytes → Bool
+begins_number_argument text =
+    not (is_empty (front is_ascii_digit text)) && begins_with round_close (without_first_spaces (behind is_ascii_digit text))
 
--- what `:name` says, in either letter case
-abbrev pub named_operator : Bytes → Option Operator
-named_operator name = operator_of (str_to_ascii_lowercase name)
+-- What the bracket of `:name(..)` opens, before its argument, by what the name is: a selector, another round bracket, or a raw
+-- argument, in which only `\`, `(` and `)` count.
+abbrev pub opened_by : Option Operator → Bytes → Open
+opened_by None argument = Round
+opened_by (Some operator.Is) argument = Selector
+opened_by (Some operator.Not) argument = Selector
+opened_by (Some operator.Has) argument = Selector
+opened_by (Some operator.Upward) argument = if begins_number_argument (without_first_spaces argument) then Round else Selector
+opened_by (Some (operator.Nth from_end of_name)) argument = Round
+opened_by (Some (operator.Aside kind.State)) argument = Round
+opened_by (Some o) argument = Raw
 
--- How a scan stands before a letter: what is open, innermost first, and what stands of a `:` and a name directly before it.
+-- what the bracket behind a name in lower case opens, before its argument
+abbrev pub opens : Bytes → Bytes → Open
+opens name argument = opened_by (operator_of name) argument
+
+-- How a scan stands before a byte: what is open, innermost first; how many bytes are still to come that count for nothing,
+-- those of an escape or of a name; and what a `(` opens behind these.
 pub record Scan : Type 0 where
   pub stack : List Open
-  pub name : Option Bytes
+  pub skip : ℕ
+  pub next : Open
 
 abbrev pub standing : List Open → Scan
-standing stack = record { stack = stack; name = None }
+standing stack = record { stack = stack; skip = 0; next = Round }
 
 -- nothing is open
 abbrev pub bare : Scan
 bare = standing []
 
 abbrev pub is_bare : Scan → Bool
-is_bare s = is_empty s.stack
+is_bare s = is_empty s.stack && s.skip == 0
 
 abbrev pub outer : List Open → List Open
 outer [] = []
 outer (o ∷ others) = others
 
--- what a `(` opens, by what stands before it
-abbrev pub opened : Option Bytes → Open
-opened None = Round
-opened (Some name) = opened_by (named_operator name)
+-- behind a `:` and a name
+abbrev pub behind_name : List Open → Bytes → Bytes → Scan
+behind_name stack name [] = standing stack
+behind_name stack name (b ∷ argument) =
+    if b == round_open then record { stack = stack; skip = length name; next = opens (str_to_ascii_lowercase name) argument }
+    else standing stack
 
--- the second `:` of `::`, which begins no name of a pseudo-class, stands where the first begins one
-abbrev pub is_second : Option Bytes → Bool
-is_second None = false
-is_second (Some name) = is_empty name
-
-abbrev pub behind_colon : Scan → Scan
-behind_colon s = record { stack = s.stack; name = if is_second s.name then None else Some [] }
+-- behind a `:`; the second `:` of `::` begins no name of a pseudo-class
+abbrev pub behind_colon : List Open → Bytes → Scan
+behind_colon stack text =
+    if begins_with colon text then record { stack = stack; skip = 1; next = Round }
+    else behind_name stack (front is_pseudo_byte text) (behind is_pseudo_byte text)
 
 -- the string that a quote begins
 abbrev pub string_of : ℕ → Open
 string_of b = if b == double_quote then DoubleQuote else SingleQuote
 
 -- a byte outside raw arguments, attributes and strings
-abbrev pub in_pieces : Scan → ℕ → Scan
-in_pieces s b =
-    if b == colon then behind_colon s
-    else if is_pseudo_byte b then record { stack = s.stack; name = option_map (λ name. name ++ b ∷ []) s.name }
-    else if b == round_open then standing (opened s.name ∷ s.stack)
+abbrev pub in_pieces : Scan → ℕ → Bytes → Scan
+in_pieces s b text =
+    if b == colon then behind_colon s.stack text
+    else if b == round_open then standing (s.next ∷ s.stack)
     else if b == square_open then standing (Square ∷ s.stack)
     else if is_quote b then standing (string_of b ∷ s.stack)
     else if b == round_close || b == square_close then standing (outer s.stack)
     else standing s.stack
 
-abbrev pub in_raw : List Open → ℕ → List Open
-in_raw stack b = if b == round_open then Raw ∷ stack else if b == round_close then outer stack else stack
+abbrev pub in_raw : Scan → ℕ → Scan
+in_raw s b =
+    if b == round_open then standing (Raw ∷ s.stack)
+    else if b == round_close then standing (outer s.stack)
+    else standing s.stack
 
-abbrev pub in_square : List Open → ℕ → List Open
-in_square stack b = if is_quote b then string_of b ∷ stack else if b == square_close then outer stack else stack
+abbrev pub in_square : Scan → ℕ → Scan
+in_square s b =
+    if is_quote b then standing (string_of b ∷ s.stack)
+    else if b == square_close then standing (outer s.stack)
+    else standing s.stack
 
-abbrev pub in_string : ℕ → List Open → ℕ → List Open
-in_string quote stack b = if b == quote then outer stack else stack
+abbrev pub in_string : ℕ → Scan → ℕ → Scan
+in_string q s b = if b == q then standing (outer s.stack) else standing s.stack
 
 abbrev pub innermost : List Open → Option Open
 innermost [] = None
 innermost (o ∷ others) = Some o
 
 -- by what is open innermost
-abbrev pub inside : Option Open → Scan → ℕ → Scan
-inside None s b = in_pieces s b
-inside (Some Selector) s b = in_pieces s b
-inside (Some Round) s b = in_pieces s b
-inside (Some Raw) s b = standing (in_raw s.stack b)
-inside (Some Square) s b = standing (in_square s.stack b)
-inside (Some DoubleQuote) s b = standing (in_string double_quote s.stack b)
-inside (Some SingleQuote) s b = standing (in_string single_quote s.stack b)
+abbrev pub inside : Option Open → Scan → ℕ → Bytes → Scan
+inside None s b text = in_pieces s b text
+inside (Some Selector) s b text = in_pieces s b text
+inside (Some Round) s b text = in_pieces s b text
+inside (Some Raw) s b text = in_raw s b
+inside (Some Square) s b text = in_square s b
+inside (Some DoubleQuote) s b text = in_string double_quote s b
+inside (Some SingleQuote) s b text = in_string single_quote s b
 
--- the scan behind a letter; escapes open and close nothing
-abbrev pub step : Scan → Letter → Scan
-step s (plain b) = inside (innermost s.stack) s b
-step s (escape source value) = standing s.stack
-step s lone = standing s.stack
+abbrev pub at_least_one : ℕ → ℕ
+at_least_one zero = 1
+at_least_one (suc n) = suc n
+
+-- behind a `\`
+abbrev pub behind_backslash : List Open → Bytes → Scan
+behind_backslash stack text = record { stack = stack; skip = at_least_one (letter_length (escape text)); next = Round }
+
+abbrev pub unless_skipped : ℕ → Scan → ℕ → Bytes → Scan
+unless_skipped (suc n) s b text = record { stack = s.stack; skip = n; next = s.next }
+unless_skipped zero s b text = if b == backslash then behind_backslash s.stack text else inside (innermost s.stack) s b text
+
+-- the scan behind the byte b, before the text
+abbrev pub step : Scan → ℕ → Bytes → Scan
+step s b text = unless_skipped s.skip s b text
 
 -- ---- balance
 
@@ -116,17 +139,16 @@ closes_wrongly (Some Square) b = false
 closes_wrongly (Some DoubleQuote) b = false
 closes_wrongly (Some SingleQuote) b = false
 
-abbrev pub is_wrong : Scan → Letter → Bool
-is_wrong s l = passes (closes_wrongly (innermost s.stack)) l
+abbrev pub is_wrong : Scan → ℕ → Bool
+is_wrong s b = s.skip == 0 && closes_wrongly (innermost s.stack) b
 
 -- Where the balance of a text fails: at the first bracket that closes wrongly, else at what is still open at the end. That
 -- began at `outermost`, the last place that was bare; a last lone `\` is open too.
-abbrev pub unbalanced : Scan → ℕ → ℕ → List Letter → Option ℕ
+abbrev pub unbalanced : Scan → ℕ → ℕ → Bytes → Option ℕ
 unbalanced s outermost at [] = if is_bare s then None else Some outermost
-unbalanced s outermost at (lone ∷ text) = Some (if is_bare s then at else outermost)
-unbalanced s outermost at (l ∷ text) =
-    if is_wrong s l then Some at
-    else unbalanced (step s l) (if is_bare s then at else outermost) (at + width l) text
+unbalanced s outermost at (b ∷ text) =
+    if is_wrong s b then Some at
+    else unbalanced (step s b text) (if is_bare s then at else outermost) (at + 1) text
 
 -- ---- depth
 
@@ -134,34 +156,24 @@ abbrev pub is_selector : Open → Bool
 is_selector Selector = true
 is_selector o = false
 
--- digits up to the closing bracket, with white space around them
-abbrev pub is_number_argument : List Letter → Bool
-is_number_argument text =
-    let digits = without_first_spaces text in
-    begins_with (passes is_ascii_digit) digits
-    && begins_with (is_sign round_close) (without_first_spaces (behind (passes is_ascii_digit) digits))
+-- The `:` of a piece whose argument is a selector at level 17. Levels are counted through such arguments alone.
+abbrev pub is_too_deep : Scan → ℕ → Bytes → Bool
+is_too_deep s b text =
+    b == colon && s.skip == 0 && nat_le 16 (length s.stack) && list_all is_selector s.stack && is_selector (behind_colon s.stack text).next
 
--- `:name(` before an argument that is a selector; `:upward` takes a number too
-abbrev pub takes_selector : Option Operator → List Letter → Bool
-takes_selector (Some operator.Upward) argument = not (is_number_argument argument)
-takes_selector o argument = is_selector (opened_by o)
-
-abbrev pub begins_selector : Option Bytes → List Letter → Bool
-begins_selector None argument = false
-begins_selector (Some name) argument = takes_selector (named_operator name) argument
-
--- The `(` of a piece whose argument is a selector at level 17. Levels are counted through such arguments alone.
-abbrev pub is_too_deep : Scan → Letter → List Letter → Bool
-is_too_deep s l text =
-    is_sign round_open l && nat_le 16 (length s.stack) && list_all is_selector s.stack && begins_selector s.name text
-
--- where the `:` before a name stands
-abbrev pub colon_before : ℕ → Option Bytes → ℕ
-colon_before at None = at
-colon_before at (Some name) = at - 1 - length name
-
--- the `:` of the first such piece
-abbrev pub too_nested : Scan → ℕ → List Letter → Option ℕ
+-- the first such place
+abbrev pub too_nested : Scan → ℕ → Bytes → Option ℕ
 too_nested s at [] = None
-too_nested s at (l ∷ text) =
-    if is_too_deep s l text then Some (colon_before at s.name) else too_nested (step s l) (at + width l) text
+too_nested s at (b ∷ text) =
+    if is_too_deep s b text then Some at else too_nested (step s b text) (at + 1) text
+
+-- ---- the end of an argument
+
+-- what stands before the bracket that closes all that is open
+abbrev pub within : Scan → Bytes → Bytes
+within s [] = []
+within s (b ∷ text) = if is_bare (step s b text) then [] else b ∷ within (step s b text) text
+
+-- there is such a bracket
+abbrev pub is_closed : Scan → Bytes → Bool
+is_closed s text = nat_lt (length (within s text)) (length text)

@@ -1,5 +1,5 @@
 -- What a text is read as: the first finding by the stages, or a selector with its action.
-use Rattle.std.specs.Prelude.{◌+◌, length, ℕ, zero, suc, Bool, true, false, not, ◌==◌, List, [], ◌∷◌, Option, Some, None, Result, Ok, Err, if◌then◌else◌}
+use Rattle.std.specs.Prelude.{ℕ, zero, suc, Bool, true, false, not, ◌==◌, List, [], ◌∷◌, Option, Some, None, Result, Ok, Err, if◌then◌else◌}
 use Rattle.selector_tree.specs.declared.selector.Place.TheVariants.{Child, Descendant, Next, After}
 use Rattle.selector_tree.specs.declared.selector.Place as tree
 use Rattle.selector_tree.specs.declared.selector.Step.TheVariants as step
@@ -13,9 +13,7 @@ use Rattle.selector_spelling.specs.declared.reading.Ask.{Ask}
 use Rattle.selector_spelling.specs.declared.reading.Reading.{Reading}
 use Rattle.selector_spelling.specs.declared.reading.Chains.{Chains}
 use Rattle.selector_spelling.specs.Bytes.{Bytes, is_empty, plus, greater, tilde}
-use Rattle.selector_spelling.specs.Letters.{Letter, letters, source}
 use Rattle.selector_spelling.specs.Scan.{bare, unbalanced, too_nested}
-use Rattle.selector_spelling.specs.Lexemes.{lexemes}
 use Rattle.selector_spelling.specs.Cuts.{Part, parts, is_comma, Item, combinator, compound, missing, items_of}
 use Rattle.selector_spelling.specs.Pieces.{◌>>=◌, no_notes, notes_joined, nothing, one, both, bad, pieces}
 
@@ -24,12 +22,12 @@ place_of b = if b == greater then Child else if b == plus then Next else if b ==
 
 -- ---- pieces in text order
 
-module _ (inner : Bool → ℕ → List Letter → Result Chains Finding) (nested several : Bool) where
+module _ (inner : Bool → ℕ → Bytes → Result Chains Finding) (nested several : Bool) where
   -- `last` says that nothing follows in the chain
   abbrev pub item : Bool → Item → Result Reading Finding
   item last (combinator b) = Ok (one (step.Move (place_of b)))
   item last (missing at) = bad cause.EmptyPart at
-  item last (compound lexemes) = pieces inner (record { nested = nested; several = several; last = last }) true lexemes
+  item last (compound at text) = pieces inner (record { nested = nested; several = several; last = last }) true at 0 text
 
   abbrev pub chain : List Item → Result Reading Finding
   chain [] = Ok nothing
@@ -38,7 +36,7 @@ module _ (inner : Bool → ℕ → List Letter → Result Chains Finding) (neste
 abbrev pub chains_then : Reading → Chains → Chains
 chains_then r others = record { chains = r.steps ∷ others.chains; notes = notes_joined r.notes others.notes }
 
-module _ (inner : Bool → ℕ → List Letter → Result Chains Finding) (nested several in_has : Bool) where
+module _ (inner : Bool → ℕ → Bytes → Result Chains Finding) (nested several in_has : Bool) where
   abbrev pub chains : List Part → Result Chains Finding
   chains [] = Ok (record { chains = []; notes = no_notes })
   chains (part ∷ others) = chain inner nested several (items_of in_has part) >>= λ r. chains others >>= λ l. Ok (chains_then r l)
@@ -47,18 +45,18 @@ abbrev pub are_several : List Part → Bool
 are_several [] = false
 are_several (part ∷ others) = not (is_empty others)
 
--- a text or an argument that is cut at its commas, with `inner` for the arguments in it
-abbrev pub selector : (Bool → ℕ → List Letter → Result Chains Finding) → Bool → Bool → ℕ → List Letter → Result Chains Finding
+-- a text or an argument that is cut at its bare commas, with `inner` for the arguments in it
+abbrev pub selector : (Bool → ℕ → Bytes → Result Chains Finding) → Bool → Bool → ℕ → Bytes → Result Chains Finding
 selector inner nested in_has at text =
-    let cut = parts is_comma (at + length (source text)) (lexemes at text) in
+    let cut = parts is_comma at text in
     chains inner nested (are_several cut) in_has cut
 
 -- The argument at a level with so many levels left, itself included. None is left only behind the finding of depth.
-abbrev pub argument : ℕ → Bool → ℕ → List Letter → Result Chains Finding
+abbrev pub argument : ℕ → Bool → ℕ → Bytes → Result Chains Finding
 argument zero in_has at text = bad cause.TooNested at
 argument (suc levels) in_has at text = selector (argument levels) true in_has at text
 
-abbrev pub selector_of : List Letter → Result Chains Finding
+abbrev pub selector_of : Bytes → Result Chains Finding
 selector_of text = selector (argument 16) false false 0 text
 
 -- ---- all stages
@@ -95,7 +93,6 @@ module _ (answer : Bytes → ℕ → Answer) where
   -- what the text is read as
   abbrev pub read_text : Bytes → Result Chains Finding
   read_text text =
-      let all = letters text in
-      malformed_at cause.Unbalanced (unbalanced bare 0 0 all)
-      (malformed_at cause.TooNested (too_nested bare 0 all)
-      (selector_of all >>= λ l. unless (first_refused l.notes.asks) (Ok l)))
+      malformed_at cause.Unbalanced (unbalanced bare 0 0 text)
+      (malformed_at cause.TooNested (too_nested bare 0 text)
+      (selector_of text >>= λ l. unless (first_refused l.notes.asks) (Ok l)))

@@ -1,8 +1,11 @@
-pub mod FrontLaws
-pub mod CutLaws
-pub mod ChainLaws
-pub mod ReadingLaws
-pub mod AttributeLaws
 pub mod Slashes
 pub mod Unescaped
 pub mod Watched
+pub mod Suffixes
+pub mod TestLaws
+pub mod ReadsLaws
+pub mod SoFar
+pub mod ChainLaws
+pub mod SelectorLaws
+pub mod LoopLaws
+pub mod PseudoLaws

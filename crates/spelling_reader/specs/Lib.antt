@@ -1,6 +1,6 @@
-pub mod Fronts
+pub mod Texts
 pub mod Readings
 pub mod Named
-pub mod Texts
 pub mod Searches
+pub mod Chains
 pub mod Spelled

@@ -1,57 +1,54 @@
 -- What readers give: what the definition gives. Where they stop instead, the lexer says what they owe.
-use Rattle.std.specs.Prelude.{◌≡◌, ℕ, Bool, ◌==◌, List, [], Result, Ok, MatchResult, if◌then◌else◌}
-use Rattle.selector_tree.specs.declared.selector.Test.TheVariants as test
-use Rattle.selector_spelling.specs.declared.finding.Cause.TheVariants as cause
+use Rattle.std.specs.Prelude.{◌≡◌, ℕ, ◌≤◌, Bool, List, [], ◌∷◌, ◌++◌, drop, Result, Ok}
+use Rattle.selector_tree.specs.declared.selector.Step.{Step}
+use Rattle.selector_tree.specs.declared.selector.Step.TheVariants as step
+use Rattle.selector_tree.specs.declared.selector.Test.{Test}
+use Rattle.selector_spelling.specs.declared.finding.Cause.TheVariants.{EmptyPart}
 use Rattle.selector_spelling.specs.declared.finding.Finding.{Finding}
 use Rattle.selector_spelling.specs.declared.reading.Notes.{Notes}
 use Rattle.selector_spelling.specs.declared.reading.Reading.{Reading}
 use Rattle.selector_spelling.specs.declared.reading.Chains.{Chains}
 use Rattle.selector_spelling.specs.declared.reading.Setting.{Setting}
-use Rattle.selector_spelling.specs.Bytes.{star}
-use Rattle.selector_spelling.specs.Letters.{Letter}
-use Rattle.selector_spelling.specs.Names.{name}
-use Rattle.selector_spelling.specs.Lexemes.{Placed}
-use Rattle.selector_spelling.specs.Cuts.{Part, parts, is_combinator, items, items_of}
-use Rattle.selector_spelling.specs.Pieces.{◌>>=◌, both, bad, keep, named, tag, if_first}
-use Rattle.selector_spelling.specs.Texts.{chain}
-use Rattle.selector_lexer.specs.declared.stop.Stop.{Stop}
-use Rattle.selector_lexer.specs.Stops.{Fails}
+use Rattle.selector_spelling.specs.Bytes.{Bytes}
+use Rattle.selector_spelling.specs.Pieces.{bad, notes_joined, keep, Piece, piece}
 
 -- a reader of arguments
 abbrev pub Inner : Type 0
-Inner = Bool → ℕ → List Letter → Result Chains Finding
+Inner = Bool → ℕ → Bytes → Result Chains Finding
 
--- what is read, behind what was read before
-abbrev pub onto : Reading → Result Reading Finding → Result Reading Finding
-onto before given = given >>= λ more. Ok (both before more)
+-- steps and notes grew by what pieces are read as
+pub record Reads (steps steps' : List Step) (notes notes' : Notes) (given : Result Reading Finding) : Type 0 where
+  pub reading : Reading
+  pub is : given ≡ Ok reading
+  pub steps_are : steps' ≡ steps ++ reading.steps
+  pub notes_are : notes' ≡ notes_joined notes reading.notes
 
--- a reader has come to a value that the definition gives, or stops with its finding
-abbrev pub Gives : {A B : Type 0} → Result B Stop → A → Result A Finding → Type 0
-Gives result value given = MatchResult result (λ _. given ≡ Ok value) (λ stop. Fails stop given)
+-- a selector was read, and the notes grew by those of it
+pub record ReadsChains (chains : List (List Step)) (notes notes' : Notes) (given : Result Chains Finding) : Type 0 where
+  pub read : Chains
+  pub is : given ≡ Ok read
+  pub chains_are : chains ≡ read.chains
+  pub notes_are : notes' ≡ notes_joined notes read.notes
 
--- ---- parts of chains
+-- a piece was read at the front of a text, and the rest is behind it
+pub record ReadsPiece (steps steps' : List Step) (notes notes' : Notes) (text rest : Bytes) (given : Result Piece Finding) : Type 0 where
+  pub read : Piece
+  pub is : given ≡ Ok read
+  pub some : 1 ≤ read.length
+  pub rest_is : rest ≡ drop read.length text
+  pub steps_are : steps' ≡ steps ++ read.reading.steps
+  pub notes_are : notes' ≡ notes_joined notes read.reading.notes
 
-abbrev pub setting_of : Bool → Bool → Bool → Setting
-setting_of nested several last = record { nested = nested; several = several; last = last }
+-- the piece is a test of a name or an attribute
+pub record ReadsTest (steps steps' : List Step) (text rest : Bytes) (given : Result Piece Finding) : Type 0 where
+  pub test : Test
+  pub length : ℕ
+  pub is : given ≡ Ok (record { length = length; reading = keep test })
+  pub some : 1 ≤ length
+  pub rest_is : rest ≡ drop length text
+  pub steps_are : steps' ≡ steps ++ step.Keep test ∷ []
 
--- nothing is read yet, behind what is said before
-abbrev pub only_notes : Notes → Reading
-only_notes notes = record { steps = []; notes = notes }
-
--- a name alone
-abbrev pub tagged : Bool → ℕ → List Letter → Result Reading Finding
-tagged first at n = if_first first at (named at tag (name n))
-
--- a sign
-abbrev pub signed : Bool → ℕ → ℕ → Result Reading Finding
-signed first at b = if_first first at (if b == star then Ok (keep test.Any) else bad cause.BadName at)
-
--- a chain whose lexemes end at a place
-abbrev pub whole_part : ℕ → List Placed → Part
-whole_part end lexemes = record { sign = 0; lexemes = lexemes; end = end }
-
--- the combinator that a chain of `:has` begins with was read
-abbrev pub IsLed : Bool → List Placed → List Placed → Reading → Reading → Type 0
-IsLed in_has lexemes rest before after =
-    (inner : Inner) (nested several : Bool) (end : ℕ)
-    → onto before (chain inner nested several (items_of in_has (whole_part end lexemes))) ≡ onto after (chain inner nested several (items (parts is_combinator end rest)))
+-- the piece at the front of a text that isn't empty
+abbrev pub piece_at : Inner → Setting → Bool → ℕ → Bytes → Result Piece Finding
+piece_at inner setting first at [] = bad EmptyPart at
+piece_at inner setting first at (b ∷ text) = piece inner setting first at b text

@@ -1,9 +1,9 @@
 -- Parts of text arguments, by the places where they are cut.
 use denote.Ref.{Bor}
 use Rattle.std.specs.List.{slice_split}
-use Rattle.std.specs.Prelude.{◌≡◌, ℕ, ◌+◌, ◌<◌, Bool, false, true, [], ◌++◌, take, drop, length, List, Option, Some, None, slice_index}
-use Rattle.selector_spelling.specs.Bytes.{Bytes, slash}
-use Rattle.selector_spelling.specs.Arguments.{closing, up_to, unescaped, is_slash, is_marked, is_comma}
+use Rattle.std.specs.Prelude.{◌≡◌, ℕ, ◌+◌, ◌<◌, Bool, false, true, ◌==◌, [], ◌∷◌, take, drop, length, encode_utf8, List, Option, Some, None, slice_index, if◌then◌else◌}
+use Rattle.selector_spelling.specs.Bytes.{Bytes, slash, backslash}
+use Rattle.selector_spelling.specs.Arguments.{closing, up_to, is_slash, is_marked, is_comma}
 use Rattle.spelling_reader.specs.declared.texts.Marks.{Marks}
 use Rattle.spelling_reader.specs.declared.texts.Marks.TheVariants.{BeforeSlash, BeforeSigns}
 
@@ -24,10 +24,10 @@ pub record EndsAt (sign : ℕ) (text : Bytes) (n : ℕ) : Type 0 where
   pub split : up_to sign false text ≡ Some (record { front = take (n + 1) text; rest = drop (n + 1) text })
   pub is : slice_index text n ≡ sign
 
--- a text grew by what a pair stands for, and the rest stands behind that
-pub record IsPairRead (p : ℕ → Bool) (out out' text : Bytes) (rest : Bor Bytes) : Type 0 where
-  pub shorter : length rest.now < length text
-  pub same : out' ++ unescaped p false rest.now ≡ out ++ unescaped p false text
+-- what a character adds to a text whose `\` are dropped
+abbrev pub pushed : (ℕ → Bool) → Bool → ℕ → Bytes
+pushed p true c = if p c then encode_utf8 c else backslash ∷ encode_utf8 c
+pushed p false c = if c == backslash then [] else encode_utf8 c
 
 -- the parts of what stands behind a first comma
 abbrev pub parts_behind : Option (Bor Bytes) → List Bytes

@@ -1,39 +1,29 @@
-ghost use Rattle.std.specs.Prelude.{◌≡◌, [], ◌++◌, OnOk};
+ghost use Rattle.std.specs.Prelude.{◌≡◌, ◌++◌, MatchResult, OnOk};
 ghost use Rattle.selector_tree.specs.declared.selector.Test.TheVariants as test;
-ghost use Rattle.selector_spelling.specs.Pieces.{both, operating, ask, ask_each, counting, searching, measuring, matching, watching, climbing, others, action};
-ghost use Rattle.spelling_reader.specs.Readings.{onto, Gives};
+ghost use Rattle.selector_spelling.specs.Pieces.{ask, ask_each, counting, searching, measuring, matching, watching, climbing, others, action};
+ghost use Rattle.selector_lexer.specs.Stops.{Fails};
+ghost use Rattle.spelling_reader.specs.Readings.{Reads};
 ghost use Rattle.spelling_reader.specs.Searches.{searched_test};
 
 use crate::pairs::{attribute_pair, watched};
-use crate::tests_of::push_step;
 use crate::texts::{sought, text_argument};
 use selector_lexer::{Stop, bad, degree, is_blank, nth, text_units};
-use selector_spelling::{Ask, Asks, Cause, Reading, Setting};
-use selector_tree::{Arg, Step, Test};
+use selector_spelling::{Ask, Cause, Notes, Setting};
+use selector_tree::{Arg, Chain, Step, Test};
 use std::alloc::{AllocError, Global};
 
 /// Notes the pattern of an argument that has one.
-fn push_ask(alloc: Global, at: usize, arg: &Arg, asks: &mut Asks) -> Result<(), AllocError>
-    ensures { OnOk result (asks.new ≡ asks.old ++ ask at arg.now) }
+fn push_ask(alloc: Global, at: usize, arg: &Arg, notes: &mut Notes) -> Result<(), AllocError>
+    ensures { OnOk result (notes.new ≡ record notes.old { asks = notes.old.asks ++ ask at arg.now }) }
 {
     if let Arg::Pattern { body, flags, .. } = arg {
         let body = body.copy(alloc)?;
-        asks.push(Ask {
+        notes.asks.push(Ask {
             at,
             body,
             flags: *flags,
         })?;
     }
-    Ok(())
-}
-
-/// Adds the step of an operator that may not stand in the argument of `:upward`.
-#[tactic(auto, using(crate::proofs::ReadingLaws::operating_more))]
-fn operate(read: &mut Reading, step: Step) -> Result<(), AllocError>
-    ensures { OnOk result (read.new ≡ both read.old (operating step [])) }
-{
-    read.steps.push(step)?;
-    read.notes.operates = true;
     Ok(())
 }
 
@@ -44,33 +34,39 @@ pub(crate) fn push_nth(
     of_name: bool,
     at: usize,
     argument: &str,
-    read: &mut Reading,
+    steps: &mut Chain,
+    notes: &mut Notes,
 ) -> Result<(), Stop>
-    ensures { Gives result read.new (onto read.old (counting from_end of_name at argument.now)) }
+    ensures { let given = counting from_end of_name at argument.now in
+        MatchResult result (λ _. Reads steps.old steps.new notes.old notes.new given) (λ stop. Fails stop given) }
 {
     let Some((a, b)) = nth(alloc, argument)? else {
         return Err(bad(Cause::BadNumber, at));
     };
-    push_step(
-        read,
-        Step::Keep(Test::Nth {
-            a,
-            b,
-            from_end,
-            of_name,
-        }),
-    )?;
+    steps.push(Step::Keep(Test::Nth {
+        a,
+        b,
+        from_end,
+        of_name,
+    }))?;
     Ok(())
 }
 
 /// `:min-text-length(..)`.
-pub(crate) fn push_units(at: usize, argument: &str, read: &mut Reading) -> Result<(), Stop>
-    ensures { Gives result read.new (onto read.old (measuring at argument.now)) }
+pub(crate) fn push_units(
+    at: usize,
+    argument: &str,
+    steps: &mut Chain,
+    notes: &mut Notes,
+) -> Result<(), Stop>
+    ensures { let given = measuring at argument.now in
+        MatchResult result (λ _. Reads steps.old steps.new notes.old notes.new given) (λ stop. Fails stop given) }
 {
     let Some(units) = text_units(argument.as_bytes()) else {
         return Err(bad(Cause::BadOperatorArgument, at));
     };
-    operate(read, Step::Keep(Test::MinText(units)))?;
+    steps.push(Step::Keep(Test::MinText(units)))?;
+    notes.operates = true;
     Ok(())
 }
 
@@ -94,46 +90,47 @@ fn search_test(searched: Searched, arg: Arg) -> Test
 }
 
 /// `:has-text(..)` and `:matches-path(..)`.
-#[tactic(auto, using(crate::proofs::ReadingLaws::operating_behind))]
 pub(crate) fn push_search(
     alloc: Global,
     searched: Searched,
     at: usize,
     argument: &str,
-    read: &mut Reading,
+    steps: &mut Chain,
+    notes: &mut Notes,
 ) -> Result<(), Stop>
-    ensures { Gives result read.new (onto read.old (searching (searched_test searched) at argument.now)) }
+    ensures { let given = searching (searched_test searched) at argument.now in
+        MatchResult result (λ _. Reads steps.old steps.new notes.old notes.new given) (λ stop. Fails stop given) }
 {
     let Some(arg) = sought(text_argument(alloc, argument)?) else {
         return Err(bad(Cause::BadOperatorArgument, at));
     };
-    push_ask(alloc, at, &arg, &mut read.notes.asks)?;
-    operate(read, Step::Keep(search_test(searched, arg)))?;
+    push_ask(alloc, at, &arg, notes)?;
+    steps.push(Step::Keep(search_test(searched, arg)))?;
+    notes.operates = true;
     Ok(())
 }
 
 /// `:matches-attr(..)`.
-#[tactic(auto, using(crate::proofs::ReadingLaws::operating_behind))]
 pub(crate) fn push_pair(
     alloc: Global,
     at: usize,
     argument: &str,
-    read: &mut Reading,
+    steps: &mut Chain,
+    notes: &mut Notes,
 ) -> Result<(), Stop>
-    ensures { Gives result read.new (onto read.old (matching at argument.now)) }
+    ensures { let given = matching at argument.now in
+        MatchResult result (λ _. Reads steps.old steps.new notes.old notes.new given) (λ stop. Fails stop given) }
 {
     let Some(pair) = attribute_pair(alloc, argument)? else {
         return Err(bad(Cause::BadOperatorArgument, at));
     };
-    push_ask(alloc, at, &pair.name, &mut read.notes.asks)?;
-    push_ask_each(alloc, at, &pair.value, &mut read.notes.asks)?;
-    operate(
-        read,
-        Step::Keep(Test::MatchesAttr {
-            name: pair.name,
-            value: pair.value,
-        }),
-    )?;
+    push_ask(alloc, at, &pair.name, notes)?;
+    push_ask_each(alloc, at, &pair.value, notes)?;
+    steps.push(Step::Keep(Test::MatchesAttr {
+        name: pair.name,
+        value: pair.value,
+    }))?;
+    notes.operates = true;
     Ok(())
 }
 
@@ -141,12 +138,12 @@ fn push_ask_each(
     alloc: Global,
     at: usize,
     arg: &Option<Arg>,
-    asks: &mut Asks,
+    notes: &mut Notes,
 ) -> Result<(), AllocError>
-    ensures { OnOk result (asks.new ≡ asks.old ++ ask_each at arg.now) }
+    ensures { OnOk result (notes.new ≡ record notes.old { asks = notes.old.asks ++ ask_each at arg.now }) }
 {
     match arg {
-        Some(arg) => push_ask(alloc, at, arg, asks),
+        Some(arg) => push_ask(alloc, at, arg, notes),
         None => Ok(()),
     }
 }
@@ -156,25 +153,35 @@ pub(crate) fn push_watch(
     alloc: Global,
     at: usize,
     argument: &str,
-    read: &mut Reading,
+    steps: &mut Chain,
+    notes: &mut Notes,
 ) -> Result<(), Stop>
-    ensures { Gives result read.new (onto read.old (watching at argument.now)) }
+    ensures { let given = watching at argument.now in
+        MatchResult result (λ _. Reads steps.old steps.new notes.old notes.new given) (λ stop. Fails stop given) }
 {
     let Some(names) = watched(alloc, argument)? else {
         return Err(bad(Cause::BadOperatorArgument, at));
     };
-    operate(read, Step::Keep(Test::WatchAttr(names)))?;
+    steps.push(Step::Keep(Test::WatchAttr(names)))?;
+    notes.operates = true;
     Ok(())
 }
 
 /// `:upward(..)` with digits.
-pub(crate) fn push_degree(at: usize, digits: &str, read: &mut Reading) -> Result<(), Stop>
-    ensures { Gives result read.new (onto read.old (climbing at digits.now)) }
+pub(crate) fn push_degree(
+    at: usize,
+    digits: &str,
+    steps: &mut Chain,
+    notes: &mut Notes,
+) -> Result<(), Stop>
+    ensures { let given = climbing at digits.now in
+        MatchResult result (λ _. Reads steps.old steps.new notes.old notes.new given) (λ stop. Fails stop given) }
 {
     let Some(degree) = degree(digits.as_bytes()) else {
         return Err(bad(Cause::BadOperatorArgument, at));
     };
-    operate(read, Step::Upward(degree))?;
+    steps.push(Step::Upward(degree))?;
+    notes.operates = true;
     Ok(())
 }
 
@@ -183,9 +190,11 @@ pub(crate) fn push_others(
     setting: Setting,
     at: usize,
     argument: &str,
-    read: &mut Reading,
+    steps: &mut Chain,
+    notes: &mut Notes,
 ) -> Result<(), Stop>
-    ensures { Gives result read.new (onto read.old (others setting at argument.now)) }
+    ensures { let given = others setting at argument.now in
+        MatchResult result (λ _. Reads steps.old steps.new notes.old notes.new given) (λ stop. Fails stop given) }
 {
     if setting.nested {
         return Err(bad(Cause::OthersNested, at));
@@ -193,21 +202,23 @@ pub(crate) fn push_others(
     if !is_blank(argument.as_bytes()) {
         return Err(bad(Cause::BadOperatorArgument, at));
     }
-    operate(read, Step::Others)?;
+    steps.push(Step::Others)?;
+    notes.operates = true;
     Ok(())
 }
 
 /// `:remove()`, which begins its compound or not, and ends it or not.
-#[tactic(auto, using(crate::proofs::ReadingLaws::removing_more))]
 pub(crate) fn note_action(
     setting: Setting,
     alone: bool,
     ends: bool,
     at: usize,
     argument: &str,
-    read: &mut Reading,
+    steps: &mut Chain,
+    notes: &mut Notes,
 ) -> Result<(), Stop>
-    ensures { Gives result read.new (onto read.old (action setting alone ends at argument.now)) }
+    ensures { let given = action setting alone ends at argument.now in
+        MatchResult result (λ _. Reads steps.old steps.new notes.old notes.new given) (λ stop. Fails stop given) }
 {
     if setting.nested || !(setting.last && ends) {
         return Err(bad(Cause::ActionNotLast, at));
@@ -221,6 +232,6 @@ pub(crate) fn note_action(
     if !is_blank(argument.as_bytes()) {
         return Err(bad(Cause::BadOperatorArgument, at));
     }
-    read.notes.removes = true;
+    notes.removes = true;
     Ok(())
 }

@@ -1,35 +1,33 @@
-ghost use Rattle.std.specs.Prelude.{◌≡◌, ◌+◌, ◌<◌, ◌^◌, true, length, Some, Ok, MatchResult, OnOk, IfOk};
+ghost use Rattle.std.specs.Prelude.{◌≡◌, ◌+◌, ◌<◌, ◌≤◌, ◌^◌, ◌∷◌, ◌++◌, ◌==◌, ◌&&◌, zero, true, length, Some, is_some, is_none, MatchResult, OnOk};
 ghost use Rattle.std.specs.Str.{str_to_ascii_lowercase};
-ghost use Rattle.selector_spelling.specs.Letters.{letters};
-ghost use Rattle.selector_spelling.specs.Cuts.{items_of};
-ghost use Rattle.selector_spelling.specs.Pieces.{both, one, pseudo_class, pseudo_element, without_argument_reading, if_first, upward, by_operator, operated, piece, pieces};
-ghost use Rattle.selector_spelling.specs.Texts.{place_of, chain, argument as the_argument, selector};
-ghost use Rattle.selector_lexer.specs.Lexemes.{lexeme_of, all_placed};
+ghost use Rattle.selector_spelling.specs.declared.operator.Operator.{Operator as TheOperator};
+ghost use Rattle.selector_spelling.specs.Bytes.{colon, is_blank};
+ghost use Rattle.selector_spelling.specs.Pieces.{pseudo, pieces, by_operator, upward, without_argument_reading, pseudo_element, Piece};
+ghost use Rattle.selector_spelling.specs.Texts.{place_of, argument as the_argument, selector};
+ghost use Rattle.selector_lexer.specs.Splits.{length_behind, text_after};
 ghost use Rattle.selector_lexer.specs.Stops.{Fails};
-ghost use Rattle.spelling_reader.specs.Fronts.{combinator_of, behind_combinator};
-ghost use Rattle.spelling_reader.specs.Readings.{onto, Gives, setting_of, only_notes, tagged, signed, whole_part, IsLed};
+ghost use Rattle.spelling_reader.specs.Readings.{Reads, ReadsChains, ReadsPiece, piece_at};
+ghost use Rattle.spelling_reader.specs.Chains.{compounds_read, signed_read, chain_read, lead};
 
-use crate::cuts::{
-    Cut, are_several, behind_first, first_compound, is_empty, place_of, split, split_combinator,
-    trim,
-};
-use crate::notes::{no_notes, push_selecting};
 use crate::operators::{
     Searched, note_action, push_degree, push_nth, push_others, push_pair, push_search, push_units,
     push_watch,
 };
 use crate::tables::plain_of;
-use crate::tests_of::{Named, push_attribute, push_named, push_step};
+use crate::tests_of::read_test;
 use cos_source::trim_text;
 use listed::Listed;
-use selector_lexer::{Lexeme, Placed, Stop, bad, begins_name, is_number, lexemes, operator_of};
-use selector_spelling::{Cause, Chains, Finding, Kind, Notes, Operator, Plain, Reading, Setting};
-use selector_tree::{Place, Step, Test};
+use selector_lexer::{
+    Behind, Class, Cut, First, Stop, argument, bad, begins_name, begins_with, first_part, is_blank,
+    is_number, opens, operator_of, split_behind, split_front, text_behind, trim_start,
+};
+use selector_spelling::{Cause, Finding, Kind, Notes, Operator, Plain, Setting};
+use selector_tree::{Chain, Place, Selector, Step, Test};
 use sqlite_items::Boxed;
 use std::alloc::{AllocError, Global};
 
 /// The combinator of a sign.
-fn place_of_sign(sign: u8) -> Place
+fn place_of(sign: u8) -> Place
     ensures { result ≡ place_of sign }
 {
     if sign == b'>' {
@@ -43,368 +41,415 @@ fn place_of_sign(sign: u8) -> Place
     }
 }
 
-/// Adds the combinator before what doesn't begin with white space, and gives what stands behind it.
-fn push_combinator<'t, 'a>(
-    lexemes: &'t [Placed<'a>],
-    read: &mut Reading,
-) -> Result<&'t [Placed<'a>], AllocError>
-    ensures rest { IfOk result (λ rest. all_placed rest.now ≡ behind_combinator (all_placed lexemes.now)) }
-    ensures moved { OnOk result (read.new ≡ both read.old (one (Step.Move (place_of (combinator_of (all_placed lexemes.now)))))) }
+/// Adds the step that a chain of `:has` begins with where no sign does.
+fn push_lead(in_has: bool, steps: &mut Chain) -> Result<(), AllocError>
+    ensures { OnOk result (steps.new ≡ steps.old ++ lead in_has) }
 {
-    let (sign, rest) = split_combinator(lexemes);
-    push_step(read, Step::Move(place_of_sign(sign)))?;
-    Ok(rest)
-}
-
-/// Adds the combinator that a chain of `:has` begins with, and gives what stands behind it.
-fn push_lead<'t, 'a>(
-    in_has: bool,
-    lexemes: &'t [Placed<'a>],
-    read: &mut Reading,
-) -> Result<&'t [Placed<'a>], AllocError>
-    ensures { IfOk result (λ rest. IsLed in_has (all_placed lexemes.now) (all_placed rest.now) read.old read.new) }
-{
-    if !in_has {
-        return Ok(lexemes);
+    if in_has {
+        steps.push(Step::Move(Place::Descendant))?;
     }
-    push_combinator(trim(lexemes), read)
+    Ok(())
 }
 
-/// Adds the step of `:name` by what it is.
-fn push_plain(name: &str, at: usize, read: &mut Reading) -> Result<(), Stop>
-    ensures { Gives result read.new (onto read.old (without_argument_reading at (str_to_ascii_lowercase name.now))) }
+/// `:name` without an argument.
+fn push_plain(name: &[u8], at: usize, steps: &mut Chain, notes: &mut Notes) -> Result<(), Stop>
+    ensures { let given = without_argument_reading at (str_to_ascii_lowercase name.now) in
+        MatchResult result (λ _. Reads steps.old steps.new notes.old notes.new given) (λ stop. Fails stop given) }
 {
-    let Some(plain) = plain_of(name.as_bytes()) else {
+    let Some(plain) = plain_of(name) else {
         return Err(bad(Cause::UnknownPseudo, at));
     };
     match plain {
-        Plain::Root => push_step(read, Step::Keep(Test::Root))?,
-        Plain::Empty => push_step(read, Step::Keep(Test::Empty))?,
-        Plain::Nth { from_end, of_name } => push_step(
-            read,
-            Step::Keep(Test::Nth {
-                a: 0,
-                b: 1,
-                from_end,
-                of_name,
-            }),
-        )?,
-        Plain::Only { of_name } => push_step(read, Step::Keep(Test::Only { of_name }))?,
+        Plain::Root => steps.push(Step::Keep(Test::Root))?,
+        Plain::Empty => steps.push(Step::Keep(Test::Empty))?,
+        Plain::Nth { from_end, of_name } => steps.push(Step::Keep(Test::Nth {
+            a: 0,
+            b: 1,
+            from_end,
+            of_name,
+        }))?,
+        Plain::Only { of_name } => steps.push(Step::Keep(Test::Only { of_name }))?,
         Plain::Aside(kind) => return Err(Stop::Found(Finding::SetAside(kind))),
     }
     Ok(())
 }
 
-/// Reads `:name`.
-fn push_pseudo(name: &str, at: usize, read: &mut Reading) -> Result<(), Stop>
-    ensures { Gives result read.new (onto read.old (pseudo_class at name.now)) }
+/// Why `::` stops a reader, from behind it on.
+fn element_stop(text: &str, at: usize) -> Stop
+    ensures { Fails result (pseudo_element at text.now) }
 {
-    if !begins_name(name.as_bytes()) {
-        return Err(bad(Cause::BadName, at));
-    }
-    push_plain(name, at, read)
-}
-
-/// Why `::name` stops a reader.
-fn element_stop(name: &str, at: usize) -> Stop
-    ensures { Fails result (pseudo_element at (letters name.now)) }
-{
-    if begins_name(name.as_bytes()) {
+    if begins_name(text) {
         Stop::Found(Finding::SetAside(Kind::PseudoElement))
     } else {
         bad(Cause::BadName, at)
     }
 }
 
-/// Reads a name alone, which is that of an element.
-fn push_tag(
-    alloc: Global,
-    first: bool,
-    name: &str,
-    at: usize,
-    read: &mut Reading,
-) -> Result<(), Stop>
-    ensures { Gives result read.new (onto read.old (tagged first at (letters name.now))) }
+/// The setting of the last compound of a part, by whether others follow.
+fn setting_with(setting: Setting, last: bool) -> Setting
+    ensures { result ≡ record setting { last = last } }
 {
-    if !first {
-        return Err(bad(Cause::BadName, at));
-    }
-    push_named(alloc, Named::Tag, name, at, read)
+    Setting { last, ..setting }
 }
 
-/// Reads a sign, of which `*` alone is a piece.
-fn push_sign(first: bool, sign: u8, at: usize, read: &mut Reading) -> Result<(), Stop>
-    ensures { Gives result read.new (onto read.old (signed first at sign)) }
+/// Whether a compound is the last of its chain, by what stands behind it.
+fn is_last(behind: &str, setting: Setting) -> bool
+    ensures { result ≡ (length behind.now == 0 && setting.last) }
 {
-    if !first || sign != b'*' {
-        return Err(bad(Cause::BadName, at));
-    }
-    push_step(read, Step::Keep(Test::Any))?;
-    Ok(())
+    behind.is_empty() && setting.last
 }
 
-/// An operator with its argument.
-#[derive(Clone, Copy)]
-struct Operand<'a> {
-    /// The place of the `:`.
-    at: usize,
-    /// The name.
-    name: &'a str,
-    /// What stands in the bracket.
-    text: &'a str,
+/// Whether a chain of `:has` begins with a sign.
+fn begins_with_sign(in_has: bool, first: &First) -> bool
+    ensures { result ≡ (in_has && (is_blank first.now.text.now && is_some first.now.behind)) }
+{
+    in_has && is_blank(first.text.as_bytes()) && first.behind.is_some()
 }
 
-/// What is handed on from chains to pieces.
-#[derive(Clone, Copy)]
-struct Reader {
-    /// Where memory comes from.
-    alloc: Global,
-    /// How many levels of arguments are left.
-    levels: u32,
-    /// In an argument.
-    nested: bool,
-    /// In a text of several chains.
-    several: bool,
-}
-
-/// Reads the chains of a text, in which so many levels of arguments are left.
+/// Reads the argument of an operator as a selector, where so many levels are left.
 #[cycle(reading)]
-pub(crate) fn read_selector(
+fn read_argument(
+    alloc: Global,
+    levels: u32,
+    in_has: bool,
+    text: &str,
+    at: usize,
+    notes: &mut Notes,
+) -> Result<Selector, Stop>
+    requires { at + length text.now < 2 ^ 64 }
+    ensures { let given = the_argument levels in_has at text.now in
+        MatchResult result (λ chains. ReadsChains chains notes.old notes.new given) (λ stop. Fails stop given) }
+{
+    if levels == 0 {
+        return Err(bad(Cause::TooNested, at));
+    }
+    read_chains(alloc, levels - 1, true, in_has, text, at, notes)
+}
+
+/// Reads the chains of a text.
+#[cycle(reading)]
+pub(crate) fn read_chains(
     alloc: Global,
     levels: u32,
     nested: bool,
     in_has: bool,
-    at: usize,
     text: &str,
-) -> Result<Chains, Stop>
+    at: usize,
+    notes: &mut Notes,
+) -> Result<Selector, Stop>
     requires { at + length text.now < 2 ^ 64 }
-    ensures { let given = selector (the_argument levels) nested in_has at (letters text.now) in
-        MatchResult result (λ chains. given ≡ Ok chains) (λ stop. Fails stop given) }
+    ensures { let given = selector (the_argument levels) nested in_has at text.now in
+        MatchResult result (λ chains. ReadsChains chains notes.old notes.new given) (λ stop. Fails stop given) }
 {
-    let found = lexemes(alloc, at, text)?;
-    let end = at + text.len();
-    let reader = Reader {
-        alloc,
-        levels,
-        nested,
-        several: are_several(found.as_slice()),
-    };
     let mut chains = Listed::new(alloc);
-    let mut notes = no_notes(alloc);
-    let mut rest = found.as_slice();
+    let mut part = first_part(alloc, Cut::Comma, text)?;
+    let setting = Setting {
+        nested,
+        several: part.behind.is_some(),
+        last: true,
+    };
+    let mut place = at;
     'chains: loop {
-        let (part, behind) = split(Cut::Comma, rest);
-        let read = reader.chain(in_has, place_of(end, behind), part, notes)?;
-        chains.push(read.steps)?;
-        notes = read.notes;
-        if behind.is_empty() {
-            return Ok(Chains { chains, notes });
-        }
-        rest = behind_first(behind);
+        let mut steps = Listed::new(alloc);
+        read_chain(
+            alloc, levels, setting, in_has, part.text, place, &mut steps, notes,
+        )?;
+        chains.push(steps)?;
+        let Some(behind) = part.behind else {
+            return Ok(chains);
+        };
+        place += part.text.len() + 1;
+        part = first_part(alloc, Cut::Comma, behind.text)?;
     }
 }
 
-impl Reader {
-    /// Reads an argument that is a selector.
-    #[cycle(reading)]
-    fn argument(self, in_has: bool, at: usize, text: &str) -> Result<Chains, Stop>
-        requires { at + length text.now < 2 ^ 64 }
-        ensures { let given = the_argument self.levels in_has at (letters text.now) in
-            MatchResult result (λ chains. given ≡ Ok chains) (λ stop. Fails stop given) }
-    {
-        if self.levels == 0 {
-            return Err(bad(Cause::TooNested, at));
-        }
-        read_selector(self.alloc, self.levels - 1, true, in_has, at, text)
+/// Reads a chain.
+#[cycle(reading)]
+fn read_chain(
+    alloc: Global,
+    levels: u32,
+    setting: Setting,
+    in_has: bool,
+    text: &str,
+    at: usize,
+    steps: &mut Chain,
+    notes: &mut Notes,
+) -> Result<(), Stop>
+    requires { at + length text.now < 2 ^ 64 }
+    ensures { let given = chain_read (the_argument levels) setting in_has at text.now in
+        MatchResult result (λ _. Reads steps.old steps.new notes.old notes.new given) (λ stop. Fails stop given) }
+{
+    let first = first_part(alloc, Cut::Sign, text)?;
+    let place = at + first.text.len();
+    if begins_with_sign(in_has, &first) {
+        return read_signed(alloc, levels, setting, first.behind, place, steps, notes);
     }
+    push_lead(in_has, steps)?;
+    let last = setting_with(setting, first.behind.is_none());
+    read_compounds(alloc, levels, last, first.text, at, steps, notes)?;
+    read_signed(alloc, levels, setting, first.behind, place, steps, notes)
+}
 
-    /// Reads a chain that ends at a place, behind what is said before it.
-    #[cycle(reading)]
-    fn chain<'t, 'a>(
-        self,
-        in_has: bool,
-        end: usize,
-        lexemes: &'t [Placed<'a>],
-        notes: Notes,
-    ) -> Result<Reading, Stop>
-        ensures { let given = chain (the_argument self.levels) self.nested self.several (items_of in_has (whole_part end (all_placed lexemes.now))) in
-            MatchResult result (λ read. onto (only_notes notes) given ≡ Ok read) (λ stop. Fails stop (onto (only_notes notes) given)) }
-    {
-        let mut read = Reading {
-            steps: Listed::new(self.alloc),
-            notes,
-        };
-        let mut rest = push_lead(in_has, lexemes, &mut read)?;
-        'compounds: loop {
-            let (compound, behind) = first_compound(rest);
-            if is_empty(compound) {
-                return Err(bad(Cause::EmptyPart, place_of(end, behind)));
-            }
-            self.compound(is_empty(behind), compound, &mut read)?;
-            if is_empty(behind) {
-                return Ok(read);
-            }
-            rest = push_combinator(behind, &mut read)?;
-        }
+/// Reads what stands behind the first sign of a chain, with that sign, which stands at a place.
+#[cycle(reading)]
+fn read_signed(
+    alloc: Global,
+    levels: u32,
+    setting: Setting,
+    behind: Option<Behind>,
+    at: usize,
+    steps: &mut Chain,
+    notes: &mut Notes,
+) -> Result<(), Stop>
+    requires { at + length_behind behind < 2 ^ 64 }
+    ensures { let given = signed_read (the_argument levels) setting at behind.entry in
+        MatchResult result (λ _. Reads steps.old steps.new notes.old notes.new given) (λ stop. Fails stop given) }
+{
+    let mut next = behind;
+    let mut place = at;
+    'signs: while let Some(behind) = next {
+        steps.push(Step::Move(place_of(behind.sign)))?;
+        let first = first_part(alloc, Cut::Sign, behind.text)?;
+        let last = setting_with(setting, first.behind.is_none());
+        read_compounds(alloc, levels, last, first.text, place + 1, steps, notes)?;
+        place += 1 + first.text.len();
+        next = first.behind;
     }
+    Ok(())
+}
 
-    /// Reads a compound, which may be the last of its chain.
-    #[cycle(reading)]
-    fn compound<'t, 'a>(
-        self,
-        last: bool,
-        lexemes: &'t [Placed<'a>],
-        read: &mut Reading,
-    ) -> Result<(), Stop>
-        ensures { let setting = setting_of self.nested self.several last in
-            Gives result read.new (onto read.old (pieces (the_argument self.levels) setting true (all_placed lexemes.now))) }
-    {
-        let setting = Setting {
-            nested: self.nested,
-            several: self.several,
+/// Reads the compounds that stand between two signs.
+#[cycle(reading)]
+fn read_compounds(
+    alloc: Global,
+    levels: u32,
+    setting: Setting,
+    text: &str,
+    at: usize,
+    steps: &mut Chain,
+    notes: &mut Notes,
+) -> Result<(), Stop>
+    requires { at + length text.now < 2 ^ 64 }
+    ensures { let given = compounds_read (the_argument levels) setting at text.now in
+        MatchResult result (λ _. Reads steps.old steps.new notes.old notes.new given) (λ stop. Fails stop given) }
+{
+    let mut rest = trim_start(text);
+    if rest.is_empty() {
+        return Err(bad(Cause::EmptyPart, at + text.len()));
+    }
+    let end = at + text.len();
+    'words: loop {
+        let first = first_part(alloc, Cut::Space, rest)?;
+        let behind = trim_start(text_behind(&first));
+        let last = setting_with(setting, is_last(behind, setting));
+        read_compound(
+            alloc,
+            levels,
             last,
-        };
-        let mut rest = lexemes;
-        let mut first = true;
-        'pieces: while !rest.is_empty() {
-            let others = behind_first(rest);
-            self.piece(setting, first, is_empty(others), &rest[0], read)?;
-            first = false;
-            rest = others;
+            first.text,
+            end - rest.len(),
+            steps,
+            notes,
+        )?;
+        if behind.is_empty() {
+            return Ok(());
         }
-        Ok(())
+        steps.push(Step::Move(Place::Descendant))?;
+        rest = behind;
     }
+}
 
-    /// Reads a piece, which may be the first and the last of its compound.
-    #[cycle(reading)]
-    fn piece(
-        self,
-        setting: Setting,
-        first: bool,
-        ends: bool,
-        placed: &Placed,
-        read: &mut Reading,
-    ) -> Result<(), Stop>
-        ensures { Gives result read.new (onto read.old (piece (the_argument self.levels) setting first ends placed.now.at (lexeme_of placed.now.lexeme))) }
-    {
-        let at = placed.at;
-        match placed.lexeme {
-            Lexeme::Word(name) => push_tag(self.alloc, first, name, at, read),
-            Lexeme::Id(name) => push_named(self.alloc, Named::Id, name, at, read),
-            Lexeme::Class(name) => push_named(self.alloc, Named::Class, name, at, read),
-            Lexeme::Element(name) => Err(element_stop(name, at)),
-            Lexeme::Pseudo(name) => push_pseudo(name, at, read),
-            Lexeme::Operator { name, argument } => {
-                let operand = Operand {
-                    at,
-                    name,
-                    text: argument,
-                };
-                self.operated(setting, first, ends, operand, read)
-            }
-            Lexeme::Square(argument) => push_attribute(self.alloc, argument, at, read),
-            Lexeme::Sign(sign) => push_sign(first, sign, at, read),
-            Lexeme::Unclosed => Err(bad(Cause::Unbalanced, at)),
-            Lexeme::Space | Lexeme::Group | Lexeme::Stray => Err(bad(Cause::BadName, at)),
-        }
+/// Reads the pieces of a compound.
+#[cycle(reading)]
+fn read_compound(
+    alloc: Global,
+    levels: u32,
+    setting: Setting,
+    text: &str,
+    at: usize,
+    steps: &mut Chain,
+    notes: &mut Notes,
+) -> Result<(), Stop>
+    requires { at + length text.now < 2 ^ 64 }
+    ensures { let given = pieces (the_argument levels) setting true at zero text.now in
+        MatchResult result (λ _. Reads steps.old steps.new notes.old notes.new given) (λ stop. Fails stop given) }
+{
+    let end = at + text.len();
+    let mut rest = text;
+    let mut first = true;
+    'pieces: while !rest.is_empty() {
+        rest = read_piece(
+            alloc,
+            levels,
+            setting,
+            first,
+            rest,
+            end - rest.len(),
+            steps,
+            notes,
+        )?;
+        first = false;
     }
+    Ok(())
+}
 
-    /// Reads `:name(..)`, by its name.
-    #[cycle(reading)]
-    fn operated(
-        self,
-        setting: Setting,
-        alone: bool,
-        ends: bool,
-        operand: Operand,
-        read: &mut Reading,
-    ) -> Result<(), Stop>
-        requires { operand.at + 2 + length operand.name.now + length operand.text.now < 2 ^ 64 }
-        ensures { let o = operand.entry in
-            Gives result read.new (onto read.old (operated (the_argument self.levels) setting alone ends o.at o.name.now (letters o.text.now))) }
-    {
-        if !begins_name(operand.name.as_bytes()) {
-            return Err(bad(Cause::BadName, operand.at));
-        }
-        let Some(operator) = operator_of(operand.name.as_bytes()) else {
-            return Err(bad(Cause::UnknownPseudo, operand.at));
-        };
-        self.operator(setting, alone, ends, operator, operand, read)
+/// Reads the piece at the front, and gives what stands behind it.
+#[cycle(reading)]
+fn read_piece<'a>(
+    alloc: Global,
+    levels: u32,
+    setting: Setting,
+    first: bool,
+    text: &'a str,
+    at: usize,
+    steps: &mut Chain,
+    notes: &mut Notes,
+) -> Result<&'a str, Stop>
+    requires some { 0 < length text.now }
+    requires room { at + length text.now < 2 ^ 64 }
+    ensures { let given = piece_at (the_argument levels) setting first at text.now in
+        MatchResult result (λ rest. ReadsPiece steps.old steps.new notes.old notes.new text.now rest.now given) (λ stop. Fails stop given) }
+{
+    if !begins_with(b':', text.as_bytes()) {
+        return read_test(alloc, first, text, at, steps);
     }
+    read_pseudo(
+        alloc,
+        levels,
+        setting,
+        first,
+        split_behind(text, 1).1,
+        at,
+        steps,
+        notes,
+    )
+}
 
-    /// Reads `:name(..)`, by what its name says.
-    #[cycle(reading)]
-    fn operator(
-        self,
-        setting: Setting,
-        alone: bool,
-        ends: bool,
-        operator: Operator,
-        operand: Operand,
-        read: &mut Reading,
-    ) -> Result<(), Stop>
-        requires { operand.at + 2 + length operand.name.now + length operand.text.now < 2 ^ 64 }
-        ensures { let o = operand.entry in
-            Gives result read.new (onto read.old (by_operator (the_argument self.levels) setting alone ends o.at (o.at + 2 + length o.name.now) (letters o.text.now) (Some operator))) }
-    {
-        let alloc = self.alloc;
-        let at = operand.at;
-        let text = operand.text;
-        let from = at + 2 + operand.name.len();
-        match operator {
-            Operator::Is => {
-                let inner = self.argument(false, from, text)?;
-                let test = Test::Is(Boxed::new(alloc, inner.chains)?);
-                push_selecting(read, Step::Keep(test), inner.notes)?;
-                Ok(())
-            }
-            Operator::Not => {
-                let inner = self.argument(false, from, text)?;
-                let test = Test::Not(Boxed::new(alloc, inner.chains)?);
-                push_selecting(read, Step::Keep(test), inner.notes)?;
-                Ok(())
-            }
-            Operator::Has => {
-                let inner = self.argument(true, from, text)?;
-                let test = Test::Has(Boxed::new(alloc, inner.chains)?);
-                push_selecting(read, Step::Keep(test), inner.notes)?;
-                Ok(())
-            }
-            Operator::Nth { from_end, of_name } => {
-                push_nth(alloc, from_end, of_name, at, text, read)
-            }
-            Operator::HasText => push_search(alloc, Searched::Text, at, text, read),
-            Operator::MinText => push_units(at, text, read),
-            Operator::MatchesPath => push_search(alloc, Searched::Path, at, text, read),
-            Operator::MatchesAttr => push_pair(alloc, at, text, read),
-            Operator::WatchAttr => push_watch(alloc, at, text, read),
-            Operator::Upward => self.upward(at, from, text, read),
-            Operator::Others => push_others(setting, at, text, read),
-            Operator::Remove => note_action(setting, alone, ends, at, text, read),
-            Operator::Aside(kind) => Err(Stop::Found(Finding::SetAside(kind))),
-        }
+/// Reads the piece at the front from behind its `:` on, which stands at a place, and gives what stands behind it.
+#[cycle(reading)]
+fn read_pseudo<'a>(
+    alloc: Global,
+    levels: u32,
+    setting: Setting,
+    first: bool,
+    text: &'a str,
+    at: usize,
+    steps: &mut Chain,
+    notes: &mut Notes,
+) -> Result<&'a str, Stop>
+    requires { at + 1 + length text.now < 2 ^ 64 }
+    ensures { let given = pseudo (the_argument levels) setting first at text.now in
+        MatchResult result (λ rest. ReadsPiece steps.old steps.new notes.old notes.new (colon ∷ text.now) rest.now given) (λ stop. Fails stop given) }
+{
+    if begins_with(b':', text.as_bytes()) {
+        return Err(element_stop(split_behind(text, 1).1, at));
     }
+    let (name, behind) = split_front(Class::Pseudo, text);
+    if !begins_name(name) {
+        return Err(bad(Cause::BadName, at));
+    }
+    if !begins_with(b'(', behind.as_bytes()) {
+        push_plain(name.as_bytes(), at, steps, notes)?;
+        return Ok(behind);
+    }
+    let inside = split_behind(behind, 1).1;
+    let opened = opens(name.as_bytes(), inside.as_bytes());
+    let (argument, rest) = argument(alloc, opened, inside, at)?;
+    let Some(operator) = operator_of(name.as_bytes()) else {
+        return Err(bad(Cause::UnknownPseudo, at));
+    };
+    let from = at + 2 + name.len();
+    read_operator(
+        alloc,
+        levels,
+        operator,
+        setting,
+        first,
+        rest.is_empty(),
+        at,
+        argument,
+        from,
+        steps,
+        notes,
+    )?;
+    Ok(rest)
+}
 
-    /// Reads `:upward(..)`.
-    #[cycle(reading)]
-    fn upward(self, at: usize, from: usize, text: &str, read: &mut Reading) -> Result<(), Stop>
-        requires { from + length text.now < 2 ^ 64 }
-        ensures { Gives result read.new (onto read.old (upward (the_argument self.levels) at from (letters text.now))) }
-    {
-        let trimmed = trim_text(text);
-        if is_number(trimmed.as_bytes()) {
-            return push_degree(at, trimmed, read);
+/// Reads `:name(..)`, whose `:` and whose argument stand at two places.
+#[cycle(reading)]
+fn read_operator(
+    alloc: Global,
+    levels: u32,
+    operator: Operator,
+    setting: Setting,
+    alone: bool,
+    ends: bool,
+    at: usize,
+    argument: &str,
+    from: usize,
+    steps: &mut Chain,
+    notes: &mut Notes,
+) -> Result<(), Stop>
+    requires { from + length argument.now < 2 ^ 64 }
+    ensures { let given = by_operator (the_argument levels) setting alone ends at from argument.now (Some operator) in
+        MatchResult result (λ _. Reads steps.old steps.new notes.old notes.new given) (λ stop. Fails stop given) }
+{
+    match operator {
+        Operator::Is => {
+            let chains = read_argument(alloc, levels, false, argument, from, notes)?;
+            steps.push(Step::Keep(Test::Is(Boxed::new(alloc, chains)?)))?;
+            Ok(())
         }
-        let inner = self.argument(false, from, text)?;
-        if inner.notes.operates {
-            return Err(bad(Cause::BadOperatorArgument, at));
+        Operator::Not => {
+            let chains = read_argument(alloc, levels, false, argument, from, notes)?;
+            steps.push(Step::Keep(Test::Not(Boxed::new(alloc, chains)?)))?;
+            Ok(())
         }
-        let step = Step::UpwardTo(Boxed::new(self.alloc, inner.chains)?);
-        let notes = Notes {
-            operates: true,
-            ..inner.notes
-        };
-        push_selecting(read, step, notes)?;
-        Ok(())
+        Operator::Has => {
+            let chains = read_argument(alloc, levels, true, argument, from, notes)?;
+            steps.push(Step::Keep(Test::Has(Boxed::new(alloc, chains)?)))?;
+            Ok(())
+        }
+        Operator::Nth { from_end, of_name } => push_nth(
+            alloc, from_end, of_name, at, argument, steps, notes,
+        ),
+        Operator::HasText => push_search(alloc, Searched::Text, at, argument, steps, notes),
+        Operator::MinText => push_units(at, argument, steps, notes),
+        Operator::MatchesPath => push_search(alloc, Searched::Path, at, argument, steps, notes),
+        Operator::MatchesAttr => push_pair(alloc, at, argument, steps, notes),
+        Operator::WatchAttr => push_watch(alloc, at, argument, steps, notes),
+        Operator::Upward => read_upward(alloc, levels, at, argument, from, steps, notes),
+        Operator::Others => push_others(setting, at, argument, steps, notes),
+        Operator::Remove => note_action(setting, alone, ends, at, argument, steps, notes),
+        Operator::Aside(kind) => Err(Stop::Found(Finding::SetAside(kind))),
     }
+}
+
+/// Reads `:upward(..)`.
+#[cycle(reading)]
+fn read_upward(
+    alloc: Global,
+    levels: u32,
+    at: usize,
+    argument: &str,
+    from: usize,
+    steps: &mut Chain,
+    notes: &mut Notes,
+) -> Result<(), Stop>
+    requires { from + length argument.now < 2 ^ 64 }
+    ensures { let given = upward (the_argument levels) at from argument.now in
+        MatchResult result (λ _. Reads steps.old steps.new notes.old notes.new given) (λ stop. Fails stop given) }
+{
+    let trimmed = trim_text(argument);
+    if is_number(trimmed.as_bytes()) {
+        return push_degree(at, trimmed, steps, notes);
+    }
+    notes.operates = false;
+    let chains = read_argument(alloc, levels, false, argument, from, notes)?;
+    if notes.operates {
+        return Err(bad(Cause::BadOperatorArgument, at));
+    }
+    notes.operates = true;
+    steps.push(Step::UpwardTo(Boxed::new(alloc, chains)?))?;
+    Ok(())
 }

@@ -1,11 +1,11 @@
 ghost use Rattle.std.specs.Prelude.{◌≡◌, IfOk};
-ghost use Rattle.selector_spelling.specs.Letters.{letters};
 ghost use Rattle.selector_spelling.specs.Texts.{selector_of};
 ghost use Rattle.spelling_reader.specs.Spelled.{spelled};
 
-use crate::reading::read_selector;
+use crate::reading::read_chains;
+use listed::Listed;
 use selector_lexer::{Stop, too_nested, unbalanced};
-use selector_spelling::{Cause, Chains, Finding};
+use selector_spelling::{Cause, Chains, Finding, Notes};
 use std::alloc::{AllocError, Global};
 
 /// What a text is read as by its balance, its depth and its pieces: its chains with the patterns that are still to be asked
@@ -24,10 +24,15 @@ pub fn read_spelling(alloc: Global, text: &str) -> Result<Result<Chains, Finding
 
 /// What the pieces of a text are read as.
 fn read_balanced(alloc: Global, text: &str) -> Result<Result<Chains, Finding>, AllocError>
-    ensures { IfOk result (λ read. read ≡ selector_of (letters text.now)) }
+    ensures { IfOk result (λ read. read ≡ selector_of text.now) }
 {
-    match read_selector(alloc, 16, false, false, 0, text) {
-        Ok(chains) => Ok(Ok(chains)),
+    let mut notes = Notes {
+        asks: Listed::new(alloc),
+        removes: false,
+        operates: false,
+    };
+    match read_chains(alloc, 16, false, false, text, 0, &mut notes) {
+        Ok(chains) => Ok(Ok(Chains { chains, notes })),
         Err(Stop::Found(finding)) => Ok(Err(finding)),
         Err(Stop::NoMemory) => Err(AllocError),
     }

@@ -1,24 +1,20 @@
-ghost use Rattle.std.specs.Prelude.{◌≡◌, OnOk, IfOk};
-ghost use Rattle.selector_spelling.specs.Letters.{letters};
+ghost use Rattle.std.specs.Prelude.{◌≡◌, ◌<◌, false, length, [], ◌∷◌, ◌++◌, Some, None, Result, MatchResult, IfOk};
+ghost use Rattle.selector_spelling.specs.declared.finding.Finding.{Finding};
+ghost use Rattle.selector_spelling.specs.Bytes.{square_open, colon, begins_with};
+ghost use Rattle.selector_spelling.specs.declared.reading.Setting.{Setting};
+ghost use Rattle.selector_spelling.specs.Pieces.{Piece, attributed};
+ghost use Rattle.selector_lexer.specs.Stops.{Fails};
+ghost use Rattle.spelling_reader.specs.Readings.{Inner, ReadsTest, piece_at};
 ghost use Rattle.selector_spelling.specs.Names.{name};
-ghost use Rattle.selector_spelling.specs.Pieces.{both, one, named, attributed};
-ghost use Rattle.spelling_reader.specs.Readings.{onto, Gives};
-ghost use Rattle.spelling_reader.specs.Named.{of_name};
+ghost use Rattle.selector_lexer.specs.declared.stop.Stop.TheVariants as stop;
+ghost use Rattle.spelling_reader.specs.Named.{of_name, NamesTest, FailsName};
 
 use crate::attributes::attribute;
 use listed::Text;
-use selector_lexer::{Stop, bad, push_name};
-use selector_spelling::{Cause, Reading};
-use selector_tree::{Step, Test};
+use selector_lexer::{Stop, argument, bad, push_name, split_behind};
+use selector_spelling::{Cause, Open};
+use selector_tree::{Chain, Step, Test};
 use std::alloc::{AllocError, Global};
-
-/// Adds a step that says nothing else.
-#[tactic(auto, using(crate::proofs::ReadingLaws::one_more))]
-pub(crate) fn push_step(read: &mut Reading, step: Step) -> Result<(), AllocError>
-    ensures { OnOk result (read.new ≡ both read.old (one step)) }
-{
-    read.steps.push(step)
-}
 
 /// What a name is the name of.
 #[derive(Clone, Copy)]
@@ -42,36 +38,72 @@ fn of_name(alloc: Global, named: Named, name: Text) -> Result<Test, AllocError>
     }
 }
 
-/// Adds the test of a name.
-pub(crate) fn push_named(
+/// Adds the test of the name at the front, and gives what stands behind it.
+fn push_named<'a>(
     alloc: Global,
-    kind: Named,
-    text: &str,
+    named: Named,
+    text: &'a str,
     at: usize,
-    read: &mut Reading,
-) -> Result<(), Stop>
-    ensures { Gives result read.new (onto read.old (named at (of_name kind) (name (letters text.now)))) }
+    steps: &mut Chain,
+) -> Result<&'a str, Stop>
+    ensures { MatchResult result (λ rest. NamesTest named steps.old steps.new text.now rest.now) (FailsName at text.now) }
 {
     let mut name = Text::new(alloc);
-    if push_name(&mut name, text)?.is_none() {
+    let Some(rest) = push_name(&mut name, text)? else {
         return Err(bad(Cause::BadName, at));
-    }
-    push_step(read, Step::Keep(of_name(alloc, kind, name)?))?;
-    Ok(())
+    };
+    steps.push(Step::Keep(of_name(alloc, named, name)?))?;
+    Ok(rest)
 }
 
-/// Adds the test that stands in `[..]`.
-pub(crate) fn push_attribute(
+/// Adds the test that stands in `[..]`, from behind the `[` on, and gives what stands behind it.
+fn push_attribute<'a>(
     alloc: Global,
-    text: &str,
+    text: &'a str,
     at: usize,
-    read: &mut Reading,
-) -> Result<(), Stop>
-    ensures { Gives result read.new (onto read.old (attributed at (letters text.now))) }
+    steps: &mut Chain,
+) -> Result<&'a str, Stop>
+    ensures { (given : Result Piece Finding) → given ≡ attributed at text.now →
+        MatchResult result (λ rest. ReadsTest steps.old steps.new (square_open ∷ text.now) rest.now given) (λ stop. Fails stop given) }
 {
-    let Some(test) = attribute(alloc, text)? else {
+    let (inside, rest) = argument(alloc, Open::Square, text, at)?;
+    let Some(test) = attribute(alloc, inside)? else {
         return Err(bad(Cause::BadAttribute, at));
     };
-    push_step(read, Step::Keep(test))?;
-    Ok(())
+    steps.push(Step::Keep(test))?;
+    Ok(rest)
+}
+
+/// Reads the piece at the front, which doesn't begin with `:`, and gives what stands behind it.
+pub(crate) fn read_test<'a>(
+    alloc: Global,
+    first: bool,
+    text: &'a str,
+    at: usize,
+    steps: &mut Chain,
+) -> Result<&'a str, Stop>
+    requires some { 0 < length text.now }
+    requires other { begins_with colon text.now ≡ false }
+    ensures { (inner : Inner) (setting : Setting) →
+        MatchResult result (λ rest. ReadsTest steps.old steps.new text.now rest.now (piece_at inner setting first at text.now))
+        (λ stop. Fails stop (piece_at inner setting first at text.now)) }
+{
+    let byte = text.as_bytes()[0];
+    if byte == b'#' {
+        return push_named(alloc, Named::Id, split_behind(text, 1).1, at, steps);
+    }
+    if byte == b'.' {
+        return push_named(alloc, Named::Class, split_behind(text, 1).1, at, steps);
+    }
+    if byte == b'[' {
+        return push_attribute(alloc, split_behind(text, 1).1, at, steps);
+    }
+    if !first {
+        return Err(bad(Cause::BadName, at));
+    }
+    if byte == b'*' {
+        steps.push(Step::Keep(Test::Any))?;
+        return Ok(split_behind(text, 1).1);
+    }
+    push_named(alloc, Named::Tag, text, at, steps)
 }

@@ -1,11 +1,11 @@
-ghost use Rattle.std.specs.Prelude.{◌≡◌, ◌<◌, ◌==◌, ◌&&◌, false, true, None, Some, length, slice_index, MatchOption, IfOk};
-ghost use Rattle.selector_spelling.specs.Bytes.{is_quote, backslash};
+ghost use Rattle.std.specs.Prelude.{◌≡◌, ◌++◌, ◌<◌, ◌==◌, ◌&&◌, not, [], false, true, None, Some, MatchOption, IfOk, OnOk};
+ghost use Rattle.selector_spelling.specs.Bytes.{is_quote};
 ghost use Rattle.selector_spelling.specs.Arguments.{unquoted, holds_byte, are_flags, flags_of, closing, unescaped, pattern_form, text_argument, sought};
-ghost use Rattle.spelling_reader.specs.Texts.{marked, IsPairRead, ClosesAt};
+ghost use Rattle.spelling_reader.specs.Texts.{marked, pushed, ClosesAt};
 
 use cos_source::trim_text;
 use listed::Text;
-use selector_lexer::{begins_with, split_before, split_behind};
+use selector_lexer::{begins_with, split_behind, split_first};
 use selector_tree::Arg;
 use std::alloc::{AllocError, Global};
 
@@ -18,17 +18,16 @@ pub(crate) enum Marks {
     BeforeSigns,
 }
 
-fn marked(marks: Marks, byte: u8) -> bool
-    ensures is { result ≡ marked marks byte }
-    ensures ascii { result ≡ true → byte < 128 }
+fn marked(marks: Marks, c: char) -> bool
+    ensures { result ≡ marked marks c }
 {
     match marks {
-        Marks::BeforeSlash => byte == b'/',
-        Marks::BeforeSigns => byte == b'('
-            || byte == b')'
-            || byte == b'\\'
-            || byte == b'/'
-            || (byte == b'"' || byte == b'\''),
+        Marks::BeforeSlash => c == '/',
+        Marks::BeforeSigns => c == '('
+            || c == ')'
+            || c == '\\'
+            || c == '/'
+            || (c == '"' || c == '\''),
     }
 }
 
@@ -105,45 +104,45 @@ fn closing(bytes: &[u8]) -> Option<usize>
     None
 }
 
+/// Whether a character begins a pair.
+fn begins_pair(paired: bool, c: char) -> bool
+    ensures { result ≡ (c == 92 && not paired) }
+{
+    c == '\\' && !paired
+}
+
 /// A text in which `\` is dropped before some characters.
-#[tactic(auto, using(crate::proofs::Unescaped::kept_front))]
 fn unescaped(alloc: Global, marks: Marks, text: &str) -> Result<Text, AllocError>
     ensures { IfOk result (λ out. out ≡ unescaped (marked marks) false text.now) }
 {
     let mut out = Text::new(alloc);
+    let mut paired = false;
     let mut rest = text;
-    loop {
-        let (front, behind) = split_before(b'\\', rest);
-        out.push_str(front)?;
-        if behind.is_empty() {
-            return Ok(out);
-        }
-        rest = push_pair(&mut out, marks, behind)?;
+    while let Some((c, behind)) = split_first(rest) {
+        push_unescaped(&mut out, marks, paired, c)?;
+        paired = begins_pair(paired, c);
+        rest = behind;
     }
+    if paired {
+        out.push('\\')?;
+    }
+    Ok(out)
 }
 
-/// Adds what a pair that begins with `\` stands for, or that `\` alone, and gives what stands behind it.
-fn push_pair<'a>(out: &mut Text, marks: Marks, text: &'a str) -> Result<&'a str, AllocError>
-    requires some { 0 < length text.now }
-    requires slash { slice_index text.now 0 ≡ backslash }
-    ensures { IfOk result (IsPairRead (marked marks) out.old out.new text.now) }
+/// Adds a character, of which a `\` that begins a pair adds nothing yet.
+fn push_unescaped(out: &mut Text, marks: Marks, paired: bool, c: char) -> Result<(), AllocError>
+    ensures { OnOk result (out.new ≡ out.old ++ pushed (marked marks) paired c) }
 {
-    let behind = split_behind(text, 1).1;
-    let Some((byte, _)) = behind.as_bytes().split_first() else {
-        out.push('\\')?;
-        return Ok(behind);
-    };
-    if marked(marks, *byte) {
-        let (mark, rest) = split_behind(behind, 1);
-        out.push_str(mark)?;
-        return Ok(rest);
+    if !paired {
+        if c == '\\' {
+            return Ok(());
+        }
+        return out.push(c);
     }
-    out.push('\\')?;
-    if *byte == b'\\' {
+    if !marked(marks, c) {
         out.push('\\')?;
-        return Ok(split_behind(behind, 1).1);
     }
-    Ok(behind)
+    out.push(c)
 }
 
 /// The body and the flags of a text in pattern form.

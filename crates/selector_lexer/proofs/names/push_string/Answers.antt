@@ -1,16 +1,19 @@
-use Rattle.std.proofs.Common.{sym, ◌∙◌}
-use Rattle.selector_lexer.proofs.Runs.{quote-low, string-closed, string-unclosed}
+use Rattle.std.proofs.Common.{rules, sym, ap, ◌∙◌, ◌≡◌, false, zero}
+use Rattle.std.specs.Prelude.{encode_utf8}
+use Rattle.selector_spelling.specs.Bytes.{begins_with}
+use Rattle.selector_spelling.specs.Names.{string, is_plain}
+use Rattle.selector_lexer.proofs.LetterLaws.{letter-shorter, string-letter, string_more}
 use Rattle.selector_lexer.proofs.names.push_string.Goals as goal
 
-pub returns-then-is_empty : goal.returns-then-is_empty
-returns-then-is_empty c = let s = c.split_run in string-unclosed c.args.quote c.args.text.now s.result.0.now s.result.1.now s.ensures.cut (sym c.is_empty.ensures ∙ c.if-is_empty.true)
+pub loop-rest-smaller : goal.loop-rest-smaller
+loop-rest-smaller c = letter-shorter is_plain c.loop-rest.rest.now c.in-Some.behind.now c.in-Some.c c.in-Some.ensures
 
-pub split_behind-requires-clause-last : goal.split_behind-requires-clause-last
-split_behind-requires-clause-last c = λ _.
-    let s = c.split_run in quote-low c.args.quote c.args.text.now s.result.0.now s.result.1.now c.requires.ascii s.ensures.cut (sym c.is_empty.ensures ∙ c.if-is_empty.false)
-
-pub returns : goal.returns
-returns c =
-    let s = c.split_run in
-    string-closed c.args.quote c.args.value.now c.push_value.new.value c.args.text.now s.result.0.now s.result.1.now c.split_behind.result.1.now s.ensures.cut
-    (sym c.is_empty.ensures ∙ c.if-is_empty.false) c.requires.empty c.in_ok-push_value.ensures c.split_behind.ensures.back
+pub loop-rest-preserved : goal.loop-rest-preserved
+loop-rest-preserved c =
+    let l = c.loop-rest in
+    let other : begins_with c.args.quote l.rest.now ≡ false = ap (begins_with c.args.quote) (sym c.as_bytes.ensures.value) ∙ sym c.begins_with.ensures ∙ c.loop-rest-test.true in (
+      search rules,
+      string_more l.value (encode_utf8 c.in-Some.c) c.push.new.self (string c.args.quote zero c.in-Some.behind.now) (string c.args.quote zero l.rest.now) _
+          (string-letter c.args.quote l.rest.now c.in-Some.behind.now c.in-Some.c c.requires.ascii other c.in-Some.ensures)
+          c.in_ok-push.ensures.ok l.invariant.1,
+    )

@@ -5,5 +5,5 @@ use Rattle.selector_lexer.proofs.numbers.limited.Given as goal
 abbrev pub invariant-loop-digit : goal.invariant-loop-digit
 invariant-loop-digit l = record {
   most : l.number ≤ l.limit;
-  same : number_from l.base l.number (drop l.digit-index l.digits) ≡ number l.base l.digits;
+  same : number_from 10 l.number (drop l.digit-index l.digits) ≡ number 10 l.digits;
 }

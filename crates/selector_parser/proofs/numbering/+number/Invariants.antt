@@ -1,21 +1,12 @@
-use Rattle.std.proofs.Common.{◌≡◌, ◌+◌, ◌*◌, map}
-use Rattle.selector_tree.specs.Unnumbered.{unnumbered, unnumbered_step}
-use Rattle.selector_parser.specs.Numbered.{numbered, numbered_step}
+use Rattle.std.proofs.Common.{◌≡◌, ◌+◌, ◌*◌, take, map}
+use Rattle.selector_parser.specs.Numbered.{numbered_step}
 use Rattle.selector_parser.proofs.numbering.+number.Given as goal
 
 abbrev pub invariant-numbered-loop-chain : goal.invariant-numbered-loop-chain
-invariant-numbered-loop-chain l = record {
-  made : l.chains ≡ numbered l.table.patterns l.yielded;
-  once : numbered l.table.patterns l.chains ≡ l.chains;
-  bare : unnumbered l.chains ≡ unnumbered l.yielded;
-}
+invariant-numbered-loop-chain l = l.chains ≡ map (map (numbered_step l.table.patterns)) (take l.chain-index l.chain-items)
 
 abbrev pub invariant-numbered_chain-loop-step : goal.invariant-numbered_chain-loop-step
-invariant-numbered_chain-loop-step l = record {
-  made : l.steps ≡ map (numbered_step l.table.patterns) l.yielded;
-  once : map (numbered_step l.table.patterns) l.steps ≡ l.steps;
-  bare : map unnumbered_step l.steps ≡ map unnumbered_step l.yielded;
-}
+invariant-numbered_chain-loop-step l = l.steps ≡ map (numbered_step l.table.patterns) (take l.step-index l.step-items)
 
 -- A box, a selector, a chain and a step may be as deep as what they lead to, so each has a rank.
 abbrev pub decreases-numbered_boxed : goal.decreases-numbered_boxed

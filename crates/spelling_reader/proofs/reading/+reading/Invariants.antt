@@ -1,58 +1,76 @@
-use Rattle.std.proofs.Common.{◌≡◌, ◌+◌, ◌*◌, length, true}
-use Rattle.selector_spelling.specs.Letters.{letters}
-use Rattle.selector_spelling.specs.Cuts.{items_of}
+use Rattle.std.proofs.Common.{◌≡◌, ◌+◌, ◌-◌, ◌*◌, ◌<◌, ◌≤◌, ◌^◌, zero, true, length}
+use denote.Text.{Utf8}
+use denote.Shadow.{shadow}
 use Rattle.selector_spelling.specs.Pieces.{pieces}
-use Rattle.selector_spelling.specs.Texts.{argument, selector, chain}
-use Rattle.selector_lexer.specs.Lexemes.{all_placed}
-use Rattle.spelling_reader.specs.Readings.{onto, setting_of, only_notes, whole_part}
-use Rattle.spelling_reader.proofs.ChainLaws.{chain_at, chains_at, chains_onto}
+use Rattle.selector_spelling.specs.Texts.{argument, selector}
+use Rattle.selector_lexer.specs.Splits.{length_behind}
+use Rattle.spelling_reader.specs.Chains.{compounds_read, signed_read}
+use Rattle.spelling_reader.proofs.SoFar.{SoFar}
+use Rattle.spelling_reader.proofs.SelectorLaws.{ChainsSoFar}
+use Rattle.spelling_reader.proofs.LoopLaws.{chains_left, WordsLeft}
 use Rattle.spelling_reader.proofs.reading.+reading.Given as goal
 
 -- the levels that are left, and then how far down a function is
-abbrev pub decreases-Reader::argument : goal.decreases-Reader::argument
-decreases-Reader::argument l = 8 * l.self.levels
+abbrev pub decreases-read_argument : goal.decreases-read_argument
+decreases-read_argument l = 16 * l.levels
 
-abbrev pub decreases-Reader::upward : goal.decreases-Reader::upward
-decreases-Reader::upward l = 8 * l.self.levels + 1
+abbrev pub decreases-read_upward : goal.decreases-read_upward
+decreases-read_upward l = 16 * l.levels + 1
 
-abbrev pub decreases-Reader::operator : goal.decreases-Reader::operator
-decreases-Reader::operator l = 8 * l.self.levels + 2
+abbrev pub decreases-read_operator : goal.decreases-read_operator
+decreases-read_operator l = 16 * l.levels + 2
 
-abbrev pub decreases-Reader::operated : goal.decreases-Reader::operated
-decreases-Reader::operated l = 8 * l.self.levels + 3
+abbrev pub decreases-read_pseudo : goal.decreases-read_pseudo
+decreases-read_pseudo l = 16 * l.levels + 3
 
-abbrev pub decreases-Reader::piece : goal.decreases-Reader::piece
-decreases-Reader::piece l = 8 * l.self.levels + 4
+abbrev pub decreases-read_piece : goal.decreases-read_piece
+decreases-read_piece l = 16 * l.levels + 4
 
-abbrev pub decreases-Reader::compound : goal.decreases-Reader::compound
-decreases-Reader::compound l = 8 * l.self.levels + 5
+abbrev pub decreases-read_compound : goal.decreases-read_compound
+decreases-read_compound l = 16 * l.levels + 5
 
-abbrev pub decreases-Reader::chain : goal.decreases-Reader::chain
-decreases-Reader::chain l = 8 * l.self.levels + 6
+abbrev pub decreases-read_compounds : goal.decreases-read_compounds
+decreases-read_compounds l = 16 * l.levels + 6
 
-abbrev pub decreases-read_selector : goal.decreases-read_selector
-decreases-read_selector l = 8 * l.levels + 7
+abbrev pub decreases-read_signed : goal.decreases-read_signed
+decreases-read_signed l = 16 * l.levels + 7
 
-abbrev pub invariant-Reader::chain-compounds : goal.invariant-Reader::chain-compounds
-invariant-Reader::chain-compounds l =
-    onto (only_notes l.fn.notes) (chain (argument l.self.levels) l.self.nested l.self.several (items_of l.in_has (whole_part l.end (all_placed l.fn.lexemes))))
-    ≡ onto l.read (chain_at (argument l.self.levels) l.self.nested l.self.several l.end (all_placed l.rest))
+abbrev pub decreases-read_chain : goal.decreases-read_chain
+decreases-read_chain l = 16 * l.levels + 8
 
-abbrev pub decreases-Reader::chain-compounds : goal.decreases-Reader::chain-compounds
-decreases-Reader::chain-compounds l = length (all_placed l.rest)
+abbrev pub decreases-read_chains : goal.decreases-read_chains
+decreases-read_chains l = 16 * l.levels + 9
 
-abbrev pub invariant-Reader::compound-pieces : goal.invariant-Reader::compound-pieces
-invariant-Reader::compound-pieces l =
-    onto l.fn.read (pieces (argument l.self.levels) (setting_of l.self.nested l.self.several l.last) true (all_placed l.lexemes))
-    ≡ onto l.read (pieces (argument l.self.levels) (setting_of l.self.nested l.self.several l.last) l.first (all_placed l.rest))
+abbrev pub invariant-read_chains-chains : goal.invariant-read_chains-chains
+invariant-read_chains-chains l = record {
+  room : l.place + length l.part.text.now + length_behind l.part.behind < 2 ^ 64;
+  so_far : ChainsSoFar l.chains l.fn.notes l.notes (chains_left (argument l.levels) l.setting l.in_has l.place l.part) (selector (argument l.levels) l.nested l.in_has l.at l.text);
+}
 
-abbrev pub decreases-Reader::compound-pieces : goal.decreases-Reader::compound-pieces
-decreases-Reader::compound-pieces l = length l.rest
+abbrev pub decreases-read_chains-chains : goal.decreases-read_chains-chains
+decreases-read_chains-chains l = length_behind l.part.behind
 
-abbrev pub invariant-read_selector-chains : goal.invariant-read_selector-chains
-invariant-read_selector-chains l =
-    selector (argument l.levels) l.nested l.in_has l.at (letters l.text)
-    ≡ chains_onto l.chains l.notes (chains_at (argument l.levels) l.nested l.reader.several l.in_has l.end (all_placed l.rest))
+abbrev pub invariant-read_signed-signs : goal.invariant-read_signed-signs
+invariant-read_signed-signs l = record {
+  room : l.place + length_behind l.next < 2 ^ 64;
+  so_far : SoFar l.fn.steps l.steps l.fn.notes l.notes (signed_read (argument l.levels) l.setting l.place l.next) (signed_read (argument l.levels) l.setting l.fn.at l.fn.behind);
+}
 
-abbrev pub decreases-read_selector-chains : goal.decreases-read_selector-chains
-decreases-read_selector-chains l = length (all_placed l.rest)
+abbrev pub decreases-read_signed-signs : goal.decreases-read_signed-signs
+decreases-read_signed-signs l = length_behind l.next
+
+abbrev pub invariant-read_compounds-words : goal.invariant-read_compounds-words
+invariant-read_compounds-words l =
+    shadow (Utf8 l.rest) × (l.end ≡ l.at + length l.text) × (length l.rest ≤ length l.text)
+    × WordsLeft (argument l.levels) l.setting l.fn.steps l.steps l.fn.notes l.notes (l.end - length l.rest) l.rest (compounds_read (argument l.levels) l.setting l.at l.text)
+
+abbrev pub decreases-read_compounds-words : goal.decreases-read_compounds-words
+decreases-read_compounds-words l = length l.rest
+
+abbrev pub invariant-read_compound-pieces : goal.invariant-read_compound-pieces
+invariant-read_compound-pieces l =
+    shadow (Utf8 l.rest) × (l.end ≡ l.at + length l.text) × (length l.rest ≤ length l.text)
+    × SoFar l.fn.steps l.steps l.fn.notes l.notes (pieces (argument l.levels) l.setting l.first (l.end - length l.rest) zero l.rest) (pieces (argument l.levels) l.setting true l.at zero l.text)
+
+abbrev pub decreases-read_compound-pieces : goal.decreases-read_compound-pieces
+decreases-read_compound-pieces l = length l.rest

@@ -5,8 +5,8 @@ use Rattle.selector_spelling.specs.Arguments.{unescaped}
 use Rattle.spelling_reader.specs.Texts.{marked}
 use Rattle.spelling_reader.proofs.texts.unescaped.Given as goal
 
-abbrev pub invariant-loop-out : goal.invariant-loop-out
-invariant-loop-out l = shadow (Utf8 l.rest) × (l.out ++ unescaped (marked l.marks) false l.rest ≡ unescaped (marked l.marks) false l.text)
+abbrev pub invariant-loop-c : goal.invariant-loop-c
+invariant-loop-c l = shadow (Utf8 l.rest) × (l.out ++ unescaped (marked l.marks) l.paired l.rest ≡ unescaped (marked l.marks) false l.text)
 
-abbrev pub decreases-loop-out : goal.decreases-loop-out
-decreases-loop-out l = length l.rest
+abbrev pub decreases-loop-c : goal.decreases-loop-c
+decreases-loop-c l = length l.rest
